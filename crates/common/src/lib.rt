@@ -1,0 +1,1 @@
+// Definitions and laws that several layers share: see specs/. No code.

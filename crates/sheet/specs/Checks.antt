@@ -1,0 +1,78 @@
+-- The checks 1 to 9 of "Sheets held", in their order. Each gives its refusal where its fault is there, and the first refusal is the answer.
+-- Assumes nothing.
+use mathlib.Core.Bool.{Bool, true, false, _&&_, _||_, not, cond}
+use mathlib.Core.List.{List, [], _∷_, _++_}
+use Prim.Native.Nat.{ℕ, zero, suc, _+_, _-_, _*_, _%_}
+use lib.Dec.{leb, ltb, eqb}
+use lib.ListN.{length}
+use Rattle.sheet.specs.declared.Refusal.{Refusal}
+use Rattle.sheet.specs.Limits.{lineBytes, maxBytes, maxSlots, maxBlowers, maxWake, maxRations, maxTank}
+use Rattle.sheet.specs.Sheet.{Job, Sheet, lineCount, lineAt, valueAt, faultyLine, sheetOf}
+
+-- the refusal with this number and this line, where the fault is there
+abbrev pub fault : ℕ → ℕ → Bool → List Refusal
+fault number line true = record { number = number; line = line } ∷ []
+fault number line false = []
+
+-- the first refusal; number 0, line 0 where there is none
+unfoldable pub firstRefusal : List Refusal → Refusal
+firstRefusal [] = record { number = 0; line = 0 }
+firstRefusal (r ∷ rs) = r
+
+unfoldable pub outside : ℕ → ℕ → ℕ → Bool
+outside a b x = ltb x a || ltb b x
+
+-- 1: the length
+unfoldable pub lengthFaults : List ℕ → List Refusal
+lengthFaults b = fault 1 0 (outside lineBytes maxBytes (length b) || not (eqb (length b % lineBytes) 0))
+
+-- the first faulty line among n lines from line i (from 0) on, by its number from 1; 0 where there is none
+unfoldable pub firstFaulty : List ℕ → ℕ → ℕ → ℕ
+firstFaulty b i zero = 0
+firstFaulty b i (suc n) = cond (faultyLine (lineAt b i)) (suc i) (firstFaulty b (suc i) n)
+
+-- 2: the first line that holds a faulty field
+unfoldable pub formFaults : List ℕ → List Refusal
+formFaults b = fault 2 (firstFaulty b 0 (lineCount b)) (ltb 0 (firstFaulty b 0 (lineCount b)))
+
+-- 3 to 6: the head line's numbers, with n rations announced on it, which agrees with the ration lines or not
+unfoldable pub headFaults : Sheet → ℕ → Bool → List Refusal
+headFaults s n agrees =
+    fault 3 1 (outside 1 maxSlots (s .slots))
+    ++ (fault 4 1 (outside 1 maxBlowers (s .blowers))
+    ++ (fault 5 1 (ltb maxWake (s .wake))
+    ++ fault 6 1 (ltb maxRations n || not agrees)))
+
+-- 7: a tank outside 1 to 999, or not above the tank before it (0 before the first)
+unfoldable pub tankFault : ℕ → ℕ → Bool
+tankFault before tank = outside 1 maxTank tank || leb tank before
+
+-- 8: a window that breaks 1 ≤ first ≤ last ≤ D
+unfoldable pub windowFault : ℕ → ℕ → ℕ → Bool
+windowFault slots release deadline = not (leb 1 release && (leb release deadline && leb deadline slots))
+
+-- 9: a volume that is 0 or above the window's length
+unfoldable pub volumeFault : ℕ → ℕ → ℕ → Bool
+volumeFault release deadline volume = eqb volume 0 || ltb (suc deadline - release) volume
+
+-- 7 to 9, of the ration on this line, after the tank before it
+unfoldable pub jobFaults : ℕ → ℕ → ℕ → Job → List Refusal
+jobFaults slots line before j =
+    fault 7 line (tankFault before (j .tank))
+    ++ (fault 8 line (windowFault slots (j .release) (j .deadline))
+    ++ fault 9 line (volumeFault (j .release) (j .deadline) (j .volume)))
+
+-- line by line
+unfoldable pub jobsFaults : ℕ → ℕ → ℕ → List Job → List Refusal
+jobsFaults slots line before [] = []
+jobsFaults slots line before (j ∷ js) = jobFaults slots line before j ++ jobsFaults slots (suc line) (j .tank) js
+
+-- 3 to 9: the head line is line 1, and the first ration's is line 2
+unfoldable pub valueFaults : Sheet → ℕ → Bool → List Refusal
+valueFaults s n agrees = headFaults s n agrees ++ jobsFaults (s .slots) 2 0 (s .jobs)
+
+-- 1 to 9, of a sheet's bytes
+unfoldable pub faults : List ℕ → List Refusal
+faults b =
+    let n : ℕ = valueAt (lineAt b 0) 3 in
+    lengthFaults b ++ (formFaults b ++ valueFaults (sheetOf b) n (eqb n (lineCount b - 1)))

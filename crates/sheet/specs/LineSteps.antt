@@ -1,0 +1,173 @@
+-- How the search for a faulty line goes on by one field and by one line, and where a line's fields stand in the sheet. Assumes nothing.
+use mathlib.Core.Path.{_≡_, refl, sym, ap, _∙_}
+use mathlib.Core.Bool.{Bool, true, false, _||_, not, cond}
+use mathlib.Core.List.{List, [], _∷_, _++_}
+use Prim.Native.Nat.{ℕ, zero, suc, _+_, _-_, _*_, _≤_, _<_}
+use native.Mathlib.Nat.{add-assoc}
+use native.Mathlib.Numerals.{add-one}
+use native.Mathlib.Omega.{arith}
+use lib.Dec.{eqb}
+use lib.ListN.{length, getD, take, drop, set, length-take, length-drop, length-set}
+use lib.Seq.{take-add, take-take, drop-at, drop-drop, length-take-le, getD-take, getD-drop}
+use borrow.Author.Tests.{eq-eqb, ne-eqb}
+use Rattle.sheet.specs.Limits.{width, fields, lineBytes, newline, maxRations}
+use Rattle.sheet.specs.Field.{parse, numberOf, isFaulty, writeField}
+use Rattle.sheet.specs.FieldLaws.{length-writeField}
+use Rattle.sheet.specs.Sheet.{lineAt, fieldAt, valueAt, faultyFrom, faultyLine, writeLine}
+use Rattle.sheet.specs.Checks.{firstFaulty}
+use Rattle.sheet.specs.Parts.{putAt, numbersAt}
+use Rattle.sheet.specs.PutLaws.{putAt-append, set-putAt, length-putAt}
+
+-- ---- places in the sheet
+
+part-of-part : (k n m : ℕ) (l : List ℕ) → n + k ≤ m → m ≤ length l → take k (drop n (take m l)) ≡ take k (drop n l)
+part-of-part k n m l h e =
+    ap (λ x. take k (drop n (take x l))) (rest m h)
+    ∙ ap (λ x. take k (drop n x)) (take-add n (m - n) l)
+    ∙ ap (take k) (drop-at (take n l) (take (m - n) (drop n l)) n (length-take-le n l (omega arith)))
+    ∙ take-take k (m - n) (drop n l) (omega arith)
+  where
+    rest : (m : ℕ) → n + k ≤ m → m ≡ n + (m - n)
+    rest m h = omega arith
+
+module _ (s : List ℕ) (i : ℕ) (h : lineBytes * i + lineBytes ≤ length s) where
+  pub field-place : (f : ℕ) → f < fields → take width (drop (lineBytes * i + width * f) s) ≡ fieldAt (lineAt s i) f
+  unfolding fieldAt lineAt
+  field-place f l =
+      sym (part-of-part width (width * f) lineBytes (drop (lineBytes * i) s) (omega arith) (rw length-drop (omega arith))
+      ∙ ap (take width) (drop-drop (width * f) (lineBytes * i) s))
+
+  pub closing-place : getD s (lineBytes * i + width * fields) 0 ≡ getD (lineAt s i) (width * fields) 0
+  unfolding lineAt
+  closing-place =
+      sym (getD-take lineBytes (drop (lineBytes * i) s) (width * fields) 0 (omega arith) ∙ getD-drop (lineBytes * i) s (width * fields) 0)
+
+  -- the number of a field, by its place
+  pub value-place : (f at : ℕ) → f < fields → at ≡ lineBytes * i + width * f → numberOf (parse (take width (drop at s))) ≡ valueAt (lineAt s i) f
+  unfolding valueAt
+  value-place f at l e = ap (λ n. numberOf (parse (take width (drop n s)))) e ∙ ap (λ x. numberOf (parse x)) (field-place f l)
+
+  -- ---- one field more
+
+  faulty-next : (l : List ℕ) (f : ℕ) → f < fields → faultyFrom l f (fields - f) ≡ (isFaulty (parse (fieldAt l f)) || faultyFrom l (f + 1) (fields - (f + 1)))
+  unfolding faultyFrom
+  faulty-next l f k = ap (faultyFrom l f) count ∙ ap (λ g. isFaulty (parse (fieldAt l f)) || faultyFrom l g (fields - (f + 1))) (sym (add-one f))
+    where
+      count : fields - f ≡ suc (fields - (f + 1))
+      count = omega arith
+
+  pub field-hit : (f at : ℕ) → f < fields → at ≡ lineBytes * i + width * f → isFaulty (parse (take width (drop at s))) ≡ true
+      → faultyFrom (lineAt s i) f (fields - f) ≡ true
+  field-hit f at l e t =
+      faulty-next (lineAt s i) f l
+      ∙ ap (λ x. isFaulty (parse x) || faultyFrom (lineAt s i) (f + 1) (fields - (f + 1))) (sym (field-place f l) ∙ ap (λ n. take width (drop n s)) (sym e))
+      ∙ ap (λ b. b || faultyFrom (lineAt s i) (f + 1) (fields - (f + 1))) t
+
+  pub field-miss : (f at : ℕ) → f < fields → at ≡ lineBytes * i + width * f → isFaulty (parse (take width (drop at s))) ≡ false
+      → faultyFrom (lineAt s i) f (fields - f) ≡ faultyFrom (lineAt s i) (f + 1) (fields - (f + 1))
+  field-miss f at l e t =
+      faulty-next (lineAt s i) f l
+      ∙ ap (λ x. isFaulty (parse x) || faultyFrom (lineAt s i) (f + 1) (fields - (f + 1))) (sym (field-place f l) ∙ ap (λ n. take width (drop n s)) (sym e))
+      ∙ ap (λ b. b || faultyFrom (lineAt s i) (f + 1) (fields - (f + 1))) t
+
+  closing : (f : ℕ) → f ≡ fields → faultyFrom (lineAt s i) f (fields - f) ≡ not (eqb (getD s (lineBytes * i + width * fields) 0) newline)
+  unfolding faultyFrom
+  closing f e = rw (e, closing-place)
+
+  pub closing-hit : (f at : ℕ) → f ≡ fields → at ≡ lineBytes * i + width * fields → (getD s at 0 ≡ newline → ⊥) → faultyFrom (lineAt s i) f (fields - f) ≡ true
+  closing-hit f at e p n = closing f e ∙ ap not (ap (λ x. eqb (getD s x 0) newline) (sym p) ∙ ne-eqb (getD s at 0) newline n)
+
+  pub closing-miss : (f at : ℕ) → f ≡ fields → at ≡ lineBytes * i + width * fields → getD s at 0 ≡ newline → faultyFrom (lineAt s i) f (fields - f) ≡ false
+  closing-miss f at e p n = closing f e ∙ ap not (ap (λ x. eqb (getD s x 0) newline) (sym p) ∙ eq-eqb (getD s at 0) newline n)
+
+-- ---- one line more
+
+pub faulty-begin : (l : List ℕ) → faultyLine l ≡ faultyFrom l 0 (fields - 0)
+unfolding faultyLine
+faulty-begin l = refl
+
+pub first-begin : (s : List ℕ) (n : ℕ) → firstFaulty s 0 n ≡ firstFaulty s 0 (n - 0)
+first-begin s n = ap (firstFaulty s 0) (all n)
+  where
+    all : (n : ℕ) → n ≡ n - 0
+    all n = omega arith
+
+module _ (s : List ℕ) (i n : ℕ) where
+  pub first-end : i ≡ n → 0 ≡ firstFaulty s i (n - i)
+  unfolding firstFaulty
+  first-end e = sym (ap (firstFaulty s i) none)
+    where
+      none : n - i ≡ zero
+      none = omega arith
+
+  module _ (h : i < n) where
+    first-next : firstFaulty s i (n - i) ≡ cond (faultyLine (lineAt s i)) (i + 1) (firstFaulty s (i + 1) (n - (i + 1)))
+    unfolding firstFaulty
+    first-next = ap (firstFaulty s i) count ∙ ap (λ k. cond (faultyLine (lineAt s i)) k (firstFaulty s k (n - (i + 1)))) (sym (add-one i))
+      where
+        count : n - i ≡ suc (n - (i + 1))
+        count = omega arith
+
+    pub first-hit : faultyLine (lineAt s i) ≡ true → i + 1 ≡ firstFaulty s i (n - i)
+    first-hit e = sym (first-next ∙ ap (λ b. cond b (i + 1) (firstFaulty s (i + 1) (n - (i + 1)))) e)
+
+    pub first-miss : faultyLine (lineAt s i) ≡ false → firstFaulty s i (n - i) ≡ firstFaulty s (i + 1) (n - (i + 1))
+    first-miss e = first-next ∙ ap (λ b. cond b (i + 1) (firstFaulty s (i + 1) (n - (i + 1)))) e
+
+-- ---- a line that is written
+
+pub put-line : (at a b c d : ℕ) (old o₁ o₂ o₃ o₄ : List ℕ) → at + lineBytes ≤ length old
+    → o₁ ≡ putAt at (writeField a) old → o₂ ≡ putAt (at + width) (writeField b) o₁ → o₃ ≡ putAt (at + width * 2) (writeField c) o₂
+    → o₄ ≡ putAt (at + width * 3) (writeField d) o₃ → set o₄ (at + width * fields) newline ≡ putAt at (writeLine a b c d) old
+unfolding writeLine
+put-line at a b c d old o₁ o₂ o₃ o₄ h p₁ p₂ p₃ p₄ =
+    set-putAt (at + width * fields) newline o₄ (omega (arith, l₄)) ∙ ap (putAt (at + width * fields) (newline ∷ [])) p₄
+    ∙ join (width * 3) (writeField d) (newline ∷ []) o₃ (length-writeField d) (omega (arith, l₃))
+    ∙ ap (putAt (at + width * 3) (writeField d ++ (newline ∷ []))) p₃
+    ∙ join (width * 2) (writeField c) (writeField d ++ (newline ∷ [])) o₂ (length-writeField c) (omega (arith, l₂))
+    ∙ ap (putAt (at + width * 2) (writeField c ++ (writeField d ++ (newline ∷ [])))) p₂
+    ∙ putAt-next (at + width) (writeField b) (writeField c ++ (writeField d ++ (newline ∷ []))) o₁ (at + width * 2) (length-writeField b) (omega arith) (omega (arith, l₁))
+    ∙ ap (putAt (at + width) (writeField b ++ (writeField c ++ (writeField d ++ (newline ∷ []))))) p₁
+    ∙ putAt-append at width (writeField a) (writeField b ++ (writeField c ++ (writeField d ++ (newline ∷ [])))) old (length-writeField a) (omega arith)
+  where
+    putAt-next : (from : ℕ) (x y o : List ℕ) (to : ℕ) → length x ≡ width → to ≡ from + width → from + width ≤ length o → putAt to y (putAt from x o) ≡ putAt from (x ++ y) o
+    putAt-next from x y o to e t k = ap (λ n. putAt n y (putAt from x o)) t ∙ putAt-append from width x y o e k
+
+    join : (k : ℕ) (x y o : List ℕ) → length x ≡ width → (at + k) + width ≤ length o → putAt (at + (k + width)) y (putAt (at + k) x o) ≡ putAt (at + k) (x ++ y) o
+    join k x y o e b = putAt-next (at + k) x y o (at + (k + width)) e (omega arith) b
+
+    keeps : (from v : ℕ) (o o′ : List ℕ) → o′ ≡ putAt from (writeField v) o → from + width ≤ length o → length o′ ≡ length o
+    keeps from v o o′ p k = ap length p ∙ length-putAt from (writeField v) o (rw (length-writeField v) k)
+
+    l₁ : length o₁ ≡ length old
+    l₁ = keeps at a old o₁ p₁ (omega arith)
+
+    l₂ : length o₂ ≡ length old
+    l₂ = keeps (at + width) b o₁ o₂ p₂ (omega (arith, l₁)) ∙ l₁
+
+    l₃ : length o₃ ≡ length old
+    l₃ = keeps (at + width * 2) c o₂ o₃ p₃ (omega (arith, l₂)) ∙ l₂
+
+    l₄ : length o₄ ≡ length old
+    l₄ = keeps (at + width * 3) d o₃ o₄ p₄ (omega (arith, l₃)) ∙ l₃
+
+-- ---- four numbers that are put
+
+pub put-numbers : (at a b c d : ℕ) (old : List ℕ) → at + fields ≤ length old
+    → set (set (set (set old at a) (at + 1) b) (at + 2) c) (at + 3) d ≡ putAt at (a ∷ b ∷ c ∷ d ∷ []) old
+put-numbers at a b c d old h =
+    ap (λ l. set (set (set l (at + 1) b) (at + 2) c) (at + 3) d) (set-putAt at a old (omega arith))
+    ∙ ap (λ l. set (set l (at + 2) c) (at + 3) d) (more 1 b (a ∷ []) refl (omega arith))
+    ∙ ap (λ l. set l (at + 3) d) (more 2 c (a ∷ b ∷ []) refl (omega arith))
+    ∙ more 3 d (a ∷ b ∷ c ∷ []) refl (omega arith)
+  where
+    more : (k x : ℕ) (xs : List ℕ) → length xs ≡ k → at + k < length old → set (putAt at xs old) (at + k) x ≡ putAt at (xs ++ (x ∷ [])) old
+    more k x xs e l =
+        set-putAt (at + k) x (putAt at xs old) (omega (arith, length-putAt at xs old (omega (arith, e))))
+        ∙ putAt-append at k xs (x ∷ []) old e (omega arith)
+
+pub put-numbers-at : (s : List ℕ) (line at a b c d : ℕ) (old : List ℕ) → at + fields ≤ length old
+    → a ≡ valueAt (lineAt s line) 0 → b ≡ valueAt (lineAt s line) 1 → c ≡ valueAt (lineAt s line) 2 → d ≡ valueAt (lineAt s line) 3
+    → set (set (set (set old at a) (at + 1) b) (at + 2) c) (at + 3) d ≡ putAt at (numbersAt s line) old
+unfolding numbersAt
+put-numbers-at s line at a b c d old h p q r t = put-numbers at a b c d old h ∙ rw (p, q, r, t)

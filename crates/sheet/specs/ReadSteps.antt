@@ -1,0 +1,234 @@
+-- How reading a sheet goes on: the form, the numbers of its rations, and the answer. Assumes nothing.
+use mathlib.Core.Path.{_≡_, refl, sym, ap, _∙_}
+use mathlib.Core.Bool.{Bool, true, false, _||_, not, cond}
+use mathlib.Core.List.{List, [], _∷_, _++_, map, append-assoc, append-nil, map-append}
+use Prim.Native.Nat.{ℕ, zero, suc, _+_, _-_, _*_, _/_, _%_, _≤_, _<_}
+use native.Mathlib.Numerals.{add-one}
+use native.Mathlib.Omega.{arith}
+use lib.Dec.{ltb, eqb}
+use lib.ListN.{length, take, drop, replicate, length-append, length-replicate, length-map}
+use lib.Seq.{take-at, drop-at, drop-append-add}
+use borrow.Author.Tests.{lt-ltb, le-ltb, eq-eqb, ne-eqb, eqb-true}
+use Rattle.common.specs.Lists.{range}
+use Rattle.common.specs.ListLaws.{range-snoc, flatMap-append, drop-replicate}
+use Rattle.sheet.specs.declared.Refusal.{Refusal}
+use Rattle.sheet.specs.declared.Reading.{Reading}
+use Rattle.sheet.specs.Limits.{width, fields, lineBytes, maxBytes, maxRations}
+use Rattle.sheet.specs.Sheet.{Job, Sheet, lineCount, lineAt, valueAt, jobAt, sheetOf, faultyLine, numbersOf, jobsOf}
+use Rattle.sheet.specs.Checks.{fault, firstRefusal, outside, lengthFaults, firstFaulty, formFaults, headFaults, jobsFaults, valueFaults, faults}
+use Rattle.sheet.specs.Calls.{padded, accepted, refused, readingOf}
+use Rattle.sheet.specs.NumbersLaws.{length-numbersOf, jobsOf-numbersOf}
+use Rattle.sheet.specs.SheetLaws.{length-jobs-sheetOf}
+use Rattle.sheet.specs.FaultLaws.{Numbered, numbered-fault, numbered-before, numbered-headFaults, numbered-jobsFaults}
+use Rattle.sheet.specs.RangeLaws.{HeadInRange, inRange-headFaults}
+use Rattle.sheet.specs.Parts.{FormChecked, putAt, numbersAt, head}
+use Rattle.sheet.specs.CheckSteps.{first-left, first-right}
+
+-- ---- 1 and 2
+
+pub firstFaulty-le : (b : List ℕ) (i n : ℕ) → firstFaulty b i n ≤ i + n
+unfolding firstFaulty
+firstFaulty-le b i zero = omega arith
+firstFaulty-le b i (suc n) = go (faultyLine (lineAt b i)) (firstFaulty-le b (suc i) n)
+  where
+    go : (t : Bool) → firstFaulty b (suc i) n ≤ suc i + n → cond t (suc i) (firstFaulty b (suc i) n) ≤ i + suc n
+    go true h = omega arith
+    go false h = omega arith
+
+module _ (b : List ℕ) where
+  pub form-short : length b < lineBytes → FormChecked b (record { number = 1; line = 0 })
+  unfolding firstRefusal lengthFaults outside
+  form-short h = record { answer = rw (lt-ltb (length b) lineBytes h); least = λ e. absurd (omega arith); most = λ e. absurd (omega arith) }
+
+  module _ (h : lineBytes ≤ length b) where
+    pub form-long : maxBytes < length b → FormChecked b (record { number = 1; line = 0 })
+    unfolding firstRefusal lengthFaults outside
+    form-long k =
+        record {
+          answer = rw (le-ltb (length b) lineBytes h, lt-ltb maxBytes (length b) k);
+          least = λ e. absurd (omega arith);
+          most = λ e. absurd (omega arith);
+        }
+
+    module _ (k : length b ≤ maxBytes) where
+      pub form-odd : (length b % lineBytes ≡ 0 → ⊥) → FormChecked b (record { number = 1; line = 0 })
+      unfolding firstRefusal lengthFaults outside
+      form-odd n =
+          record {
+            answer = rw (le-ltb (length b) lineBytes h, le-ltb maxBytes (length b) k, ne-eqb (length b % lineBytes) 0 n);
+            least = λ e. absurd (omega arith);
+            most = λ e. absurd (omega arith);
+          }
+
+      module _ (e : length b % lineBytes ≡ 0) (line : ℕ) (f : line ≡ firstFaulty b 0 (length b / lineBytes)) where
+        pub form-fine : line ≡ 0 → FormChecked b (record { number = 0; line = 0 })
+        unfolding firstRefusal lengthFaults formFaults outside lineCount
+        form-fine z =
+            record {
+              answer = rw (le-ltb (length b) lineBytes h, le-ltb maxBytes (length b) k, eq-eqb (length b % lineBytes) 0 e, ← f, z);
+              least = λ _. h;
+              most = λ _. k;
+            }
+
+        pub form-faulty : (line ≡ 0 → ⊥) → FormChecked b (record { number = 2; line = line })
+        unfolding firstRefusal lengthFaults formFaults outside lineCount
+        form-faulty n =
+            record {
+              answer =
+                  rw
+                  (le-ltb (length b) lineBytes h, le-ltb maxBytes (length b) k, eq-eqb (length b % lineBytes) 0 e, ← f, lt-ltb 0 line (omega arith));
+              least = λ x. absurd (omega arith);
+              most = λ x. absurd (omega arith);
+            }
+
+-- ---- the numbers of the rations
+
+-- of the rations on the n lines after the head line
+abbrev pub filled : List ℕ → ℕ → List ℕ
+filled b n = numbersOf (map (jobAt b) (range 1 n))
+
+pub length-filled : (b : List ℕ) (n : ℕ) → length (filled b n) ≡ fields * n
+length-filled b n = length-numbersOf (map (jobAt b) (range 1 n)) ∙ ap (λ k. fields * k) (length-map (range 1 n) (jobAt b) ∙ length-range 1 n)
+  where
+    length-range : (i k : ℕ) → length (range i k) ≡ k
+    length-range i zero = refl
+    length-range i (suc k) = ap suc (length-range (suc i) k)
+
+pub length-padded : (n : ℕ) (xs : List ℕ) → length xs ≤ n → length (padded n xs) ≡ n
+unfolding padded
+length-padded n xs h = simp (length-append, length-replicate) (omega arith)
+
+pub fill-begin : (b : List ℕ) → replicate (fields * maxRations) 0 ≡ padded (fields * maxRations) (filled b 0)
+unfolding padded numbersOf
+fill-begin b = refl
+
+filled-next : (b : List ℕ) (i : ℕ) → filled b (i + 1) ≡ filled b i ++ numbersAt b (i + 1)
+unfolding numbersOf jobAt numbersAt
+filled-next b i =
+    ap (filled b) (add-one i) ∙ ap (λ r. numbersOf (map (jobAt b) r)) (range-snoc 1 i) ∙ ap numbersOf (map-append (jobAt b) (range 1 i) ((1 + i) ∷ []))
+    ∙ flatMap-append _ (map (jobAt b) (range 1 i)) (jobAt b (1 + i) ∷ []) ∙ ap (λ k. filled b i ++ numbersAt b k) (swap i)
+  where
+    swap : (i : ℕ) → 1 + i ≡ i + 1
+    swap i = omega arith
+
+pub fill-next : (b : List ℕ) (i : ℕ) → i < maxRations
+    → putAt (fields * i) (numbersAt b (i + 1)) (padded (fields * maxRations) (filled b i)) ≡ padded (fields * maxRations) (filled b (i + 1))
+unfolding putAt padded numbersAt
+fill-next b i h =
+    ap (λ l. l ++ (numbersAt b (i + 1) ++ drop (fields * i + fields) (filled b i ++ zeros))) (take-at (filled b i) zeros (fields * i) (length-filled b i))
+    ∙ ap (λ l. filled b i ++ (numbersAt b (i + 1) ++ l)) behind
+    ∙ sym (append-assoc (filled b i) (numbersAt b (i + 1)) (replicate (fields * maxRations - length (filled b (i + 1))) 0))
+    ∙ ap (λ l. l ++ replicate (fields * maxRations - length (filled b (i + 1))) 0) (sym (filled-next b i))
+  where
+    zeros : List ℕ
+    zeros = replicate (fields * maxRations - length (filled b i)) 0
+
+    behind : drop (fields * i + fields) (filled b i ++ zeros) ≡ replicate (fields * maxRations - length (filled b (i + 1))) 0
+    behind =
+        ap (λ k. drop (k + fields) (filled b i ++ zeros)) (sym (length-filled b i)) ∙ drop-append-add (filled b i) zeros fields
+        ∙ drop-replicate fields (fields * maxRations - length (filled b i)) 0 ∙ ap (λ k. replicate k 0) left
+      where
+        left : fields * maxRations - length (filled b i) - fields ≡ fields * maxRations - length (filled b (i + 1))
+        left = omega (arith, length-filled b i, length-filled b (i + 1))
+
+pub take-padded : (b : List ℕ) (n : ℕ) → take (fields * n) (padded (fields * maxRations) (filled b n)) ≡ filled b n
+unfolding padded
+take-padded b n = take-at (filled b n) _ (fields * n) (length-filled b n)
+
+-- ---- the answer
+
+-- number and line of the first refusal decide the answer
+pub answer-refused : (b : List ℕ) (r : Refusal) → r ≡ firstRefusal (faults b) → (r .number ≡ 0 → ⊥) → refused r ≡ readingOf b
+unfolding readingOf
+answer-refused b r e n = rw (← e, ne-eqb (r .number) 0 n)
+
+pub answer-accepted : (b : List ℕ) → firstRefusal (faults b) .number ≡ 0 → accepted (sheetOf b) ≡ readingOf b
+unfolding readingOf
+answer-accepted b e = rw (eq-eqb (firstRefusal (faults b) .number) 0 e)
+
+module _ (b : List ℕ) where
+  numbered-form : Numbered (lengthFaults b ++ formFaults b)
+  unfolding lengthFaults formFaults
+  numbered-form =
+      numbered-before 1 0 (outside lineBytes maxBytes (length b) || not (eqb (length b % lineBytes) 0)) (omega arith)
+      (numbered-fault 2 (firstFaulty b 0 (lineCount b)) (ltb 0 (firstFaulty b 0 (lineCount b))) (omega arith))
+
+  abbrev announced : ℕ
+  announced = valueAt (lineAt b 0) 3
+
+  abbrev values : List Refusal
+  values = valueFaults (sheetOf b) announced (eqb announced (lineCount b - 1))
+
+  faults-split : faults b ≡ (lengthFaults b ++ formFaults b) ++ values
+  unfolding faults
+  faults-split = sym (append-assoc (lengthFaults b) (formFaults b) values)
+
+  module _ (form : Refusal) (f : FormChecked b form) where
+    -- refused by 1 or 2
+    pub form-refused : (form .number ≡ 0 → ⊥) → refused form ≡ readingOf b
+    form-refused n =
+        answer-refused b form
+        (f .answer ∙ first-left (lengthFaults b ++ formFaults b) values (λ z. n (ap (λ r. r .number) (f .answer) ∙ z)) ∙ ap firstRefusal (sym faults-split)) n
+
+    module _ (z : form .number ≡ 0) where
+      form-passed : firstRefusal (faults b) ≡ firstRefusal values
+      form-passed = ap firstRefusal faults-split ∙ first-right (lengthFaults b ++ formFaults b) values (numbered-form (sym (ap (λ r. r .number) (f .answer)) ∙ z))
+
+      module _ (slots blowers wake rations : ℕ) (s₀ : slots ≡ valueAt (lineAt b 0) 0) (s₁ : blowers ≡ valueAt (lineAt b 0) 1) (s₂ : wake ≡ valueAt (lineAt b 0) 2)
+          (s₃ : rations ≡ valueAt (lineAt b 0) 3) (h : Refusal) (e : h ≡ firstRefusal (headFaults (head slots blowers wake) rations (eqb rations (lineCount b - 1)))) where
+        same-head : headFaults (head slots blowers wake) rations (eqb rations (lineCount b - 1)) ≡ headFaults (sheetOf b) announced (eqb announced (lineCount b - 1))
+        unfolding headFaults sheetOf
+        same-head = rw (s₀, s₁, s₂, s₃)
+
+        abbrev rest : List Refusal
+        rest = jobsFaults (sheetOf b .slots) 2 0 (sheetOf b .jobs)
+
+        -- refused by 3 to 6
+        pub head-refused : (h .number ≡ 0 → ⊥) → refused h ≡ readingOf b
+        unfolding valueFaults
+        head-refused n =
+            answer-refused b h
+            (e ∙ ap firstRefusal same-head ∙ first-left (headFaults (sheetOf b) announced (eqb announced (lineCount b - 1))) rest
+            (λ y. n (ap (λ r. r .number) (e ∙ ap firstRefusal same-head) ∙ y)) ∙ sym form-passed) n
+
+        module _ (y : h .number ≡ 0) where
+          none : headFaults (head slots blowers wake) rations (eqb rations (lineCount b - 1)) ≡ []
+          none = numbered-headFaults (head slots blowers wake) rations (eqb rations (lineCount b - 1)) (sym (ap (λ r. r .number) e) ∙ y)
+
+          pub head-passed : HeadInRange (head slots blowers wake) rations (eqb rations (lineCount b - 1))
+          head-passed = inRange-headFaults (head slots blowers wake) rations (eqb rations (lineCount b - 1)) none
+
+          pub head-agrees : rations ≡ lineCount b - 1
+          head-agrees = eqb-true rations (lineCount b - 1) (head-passed .agree)
+
+          head-left : firstRefusal (faults b) ≡ firstRefusal rest
+          unfolding valueFaults
+          head-left = form-passed ∙ first-right (headFaults (sheetOf b) announced (eqb announced (lineCount b - 1))) rest (sym same-head ∙ none)
+
+          module _ (n : ℕ) (c : n ≡ lineCount b - 1) (numbers : List ℕ) (g : numbers ≡ padded (fields * maxRations) (filled b n)) (r : Refusal)
+              (q : r ≡ firstRefusal (jobsFaults slots 2 0 (jobsOf (take (fields * n) numbers)))) where
+            same-jobs : r ≡ firstRefusal rest
+            unfolding sheetOf
+            same-jobs =
+                q ∙ ap (λ xs. firstRefusal (jobsFaults slots 2 0 (jobsOf xs))) (ap (take (fields * n)) g ∙ take-padded b n)
+                ∙ ap (λ js. firstRefusal (jobsFaults slots 2 0 js)) (jobsOf-numbersOf (map (jobAt b) (range 1 n)))
+                ∙ ap (λ k. firstRefusal (jobsFaults slots 2 0 (map (jobAt b) (range 1 k)))) c
+                ∙ ap (λ k. firstRefusal (jobsFaults k 2 0 (map (jobAt b) (range 1 (lineCount b - 1))))) s₀
+
+            -- refused by 7 to 9
+            pub jobs-refused : (r .number ≡ 0 → ⊥) → refused r ≡ readingOf b
+            jobs-refused k = answer-refused b r (same-jobs ∙ sym head-left) k
+
+            -- accepted
+            pub read-accepted : r .number ≡ 0
+                → record { number = 0; line = 0; slots = slots; blowers = blowers; wake = wake; rations = rations; numbers = numbers } ≡ readingOf b
+            unfolding accepted sheetOf
+            read-accepted k =
+                (λ i. record { number = 0; line = 0; slots = s₀ i; blowers = s₁ i; wake = s₂ i; rations = count i; numbers = flat i })
+                ∙ answer-accepted b (ap (λ x. x .number) (head-left ∙ sym same-jobs) ∙ k)
+              where
+                count : rations ≡ length (sheetOf b .jobs)
+                count = head-agrees ∙ sym (length-jobs-sheetOf b)
+
+                flat : numbers ≡ padded (fields * maxRations) (numbersOf (sheetOf b .jobs))
+                flat = g ∙ ap (λ m. padded (fields * maxRations) (filled b m)) c

@@ -1,0 +1,88 @@
+-- The sheet layer's theorems, about the definitions that the calls' promises are equations with. Assumes nothing.
+use mathlib.Core.Path.{_≡_, sym, ap, ap₂, subst₂, _∙_}
+use mathlib.Core.Bool.{true}
+use mathlib.Core.List.{List, []}
+use Prim.Native.Nat.{ℕ, _-_, _≤_, _<_}
+use native.Mathlib.Omega.{arith}
+use lib.ListN.{length}
+use Rattle.sheet.specs.declared.Refusal.{Refusal}
+use Rattle.sheet.specs.declared.Reading.{Reading}
+use Rattle.sheet.specs.Sheet.{Sheet, lineCount, lineAt, valueAt, sheetOf, writeSheet}
+use Rattle.sheet.specs.Checks.{valueFaults, faults}
+use Rattle.sheet.specs.Calls.{accepted, readingOf, writtenOf, bufferAfter, over, lookUp}
+use Rattle.sheet.specs.SheetLaws.{sheetOf-writeSheet, length-writeSheet}
+use Rattle.sheet.specs.RangeLaws.{inRange-valueFaults, fits-inRange}
+use Rattle.sheet.specs.WellFormedLaws.{faults-wellFormed, wellFormed-faults, wellFormed-writeSheet, writeSheet-wellFormed, valueFaults-wellFormed}
+use Rattle.sheet.specs.FindLaws.{lineOf-rising, lineOf-none, lineOf-some}
+use Rattle.sheet.specs.CallLaws.{readingOf-accepted, faults-readingOf, sheetRead, sheetRead-accepted, refusalAgain, refusalAgain-accepted, lookUp-accepted, lookUp-refused, faults-lookUp, lookUp-none}
+
+-- A sheet written from values that are all in range is accepted, ..
+pub written-accepted : (s : Sheet) → valueFaults s (length (s .jobs)) true ≡ [] → faults (writeSheet s) ≡ []
+written-accepted s e = faults-wellFormed (writeSheet s) (wellFormed-writeSheet s (inRange-valueFaults s (length (s .jobs)) true e))
+
+-- .. and read back to the same values.
+pub written-read : (s : Sheet) → valueFaults s (length (s .jobs)) true ≡ [] → readingOf (writeSheet s) ≡ accepted s
+written-read s e =
+    readingOf-accepted (writeSheet s) (written-accepted s e)
+    ∙ ap accepted (sheetOf-writeSheet s (fits-inRange s (inRange-valueFaults s (length (s .jobs)) true e)))
+
+-- Accepted bytes are the bytes written from the values read from them.
+pub read-written : (b : List ℕ) → faults b ≡ [] → writeSheet (sheetOf b) ≡ b
+read-written b e = writeSheet-wellFormed b (wellFormed-faults b e)
+
+-- a reading's numbers, handed to the writer with a buffer `old`, give number 0, the length of b, and b at the buffer's front; its bytes after b keep their values
+pub record WrittenAgain (r : Reading) (b old : List ℕ) : Type 0 where
+  pub answer : writtenOf (refusalAgain r (length old)) (sheetRead r) ≡ record { number = 0; line = 0; length = length b }
+  pub buffer : bufferAfter (refusalAgain r (length old)) (sheetRead r) old ≡ over b old
+
+accepted-again : (s : Sheet) (old : List ℕ) → valueFaults s (length (s .jobs)) true ≡ [] → length (writeSheet s) ≤ length old → WrittenAgain (accepted s) (writeSheet s) old
+unfolding writtenOf bufferAfter
+accepted-again s old e h =
+    let f = refusalAgain-accepted s (length old) e (omega (arith, length-writeSheet s)) in
+    record {
+      answer = ap₂ writtenOf f (sheetRead-accepted s);
+      buffer = ap₂ (λ (x : Refusal) (y : Sheet). bufferAfter x y old) f (sheetRead-accepted s);
+    }
+
+-- The same of the calls: accepted bytes, read and written again into a buffer that can hold them, are those bytes.
+-- (`sheetRead` and `refusalAgain`, of CallLaws, are the writer's definitions at a reading's numbers.)
+pub read-written-again : (b old : List ℕ) → readingOf b .number ≡ 0 → length b ≤ length old → WrittenAgain (readingOf b) b old
+read-written-again b old z h =
+    let e = faults-readingOf b z in
+    let v = valueFaults-wellFormed b (wellFormed-faults b e) in
+    subst₂
+    (λ (r : Reading) (x : List ℕ). WrittenAgain r x old)
+    (sym (readingOf-accepted b e))
+    (read-written b e)
+    (accepted-again (sheetOf b) old v (rw (read-written b e) h))
+
+-- A look-up gives the line whose first field is the tank: no other line has it, since the tanks rise.
+pub find-line : (b : List ℕ) (tank i : ℕ) → faults b ≡ [] → 1 ≤ i → i < lineCount b → valueAt (lineAt b i) 0 ≡ tank → lookUp b tank ≡ lineAt b i
+unfolding sheetOf
+find-line b tank i e p q t =
+    lookUp-accepted b tank e
+    ∙ lineOf-rising b tank (sheetOf b .slots) 0 1 (lineCount b - 1) i (wellFormed-faults b e .values .jobs) (record { from = p; to = omega arith; has = t })
+
+-- It gives nothing else: what is not empty is the line of that tank, of a sheet without a fault.
+pub record IsLineOf (b : List ℕ) (tank i : ℕ) : Type 0 where
+  pub accepted : faults b ≡ []
+  pub first : 1 ≤ i
+  pub last : i < lineCount b
+  pub has : valueAt (lineAt b i) 0 ≡ tank
+  pub line : lookUp b tank ≡ lineAt b i
+
+pub find-only : (b : List ℕ) (tank : ℕ) → (lookUp b tank ≡ [] → ⊥) → (i : ℕ) × IsLineOf b tank i
+find-only b tank h =
+    let e = faults-lookUp b tank h in
+    let a = lookUp-accepted b tank e in
+    let r = lineOf-some b tank 1 (lineCount b - 1) (λ z. h (a ∙ z)) in
+    let t = r .1 in
+    (r .0, record { accepted = e; first = t .from; last = omega arith; has = t .has; line = a ∙ r .2 })
+
+-- It is empty where no line has the tank, ..
+pub find-none : (b : List ℕ) (tank : ℕ) → ((i : ℕ) → 1 ≤ i → i < lineCount b → valueAt (lineAt b i) 0 ≡ tank → ⊥) → lookUp b tank ≡ []
+find-none b tank h = lookUp-none b tank (lineOf-none b tank 1 (lineCount b - 1) (λ k p q t. h k p (omega arith) t))
+
+-- .. and where the sheet is refused.
+pub find-refused : (b : List ℕ) (tank : ℕ) → (faults b ≡ [] → ⊥) → lookUp b tank ≡ []
+find-refused b tank h = lookUp-refused b tank h

@@ -1,0 +1,131 @@
+// The checks 3 to 9, on numbers.
+use crate::Refusal;
+use crate::limits::MAX_BLOWERS;
+use crate::limits::MAX_RATIONS;
+use crate::limits::MAX_SLOTS;
+use crate::limits::MAX_TANK;
+use crate::limits::MAX_WAKE;
+ghost use mathlib.Core.Path.{_≡_};
+ghost use Prim.Native.Nat.{ℕ, _+_, _*_, _≤_, _<_};
+ghost use lib.ListN.{length, take};
+ghost use Rattle.sheet.specs.Limits.{maxRations, fields};
+ghost use Rattle.sheet.specs.Sheet.{jobsOf};
+ghost use Rattle.sheet.specs.Checks.{firstRefusal, headFaults, tankFault, windowFault, volumeFault, jobFaults, jobsFaults};
+ghost use Rattle.sheet.specs.Parts.{head, job};
+
+// 3 to 6: the head line's numbers.
+pub fn head_refusal(slots: u32, blowers: u32, wake: u32, rations: u32, agrees: bool) -> Refusal
+    ensures { λ r. ⌜ r ≡ firstRefusal (headFaults (head slots blowers wake) rations agrees) ⌝ }
+{
+    if slots < 1 {
+        return Refusal { number: 3, line: 1 };
+    }
+    if MAX_SLOTS < slots {
+        return Refusal { number: 3, line: 1 };
+    }
+    if blowers < 1 {
+        return Refusal { number: 4, line: 1 };
+    }
+    if MAX_BLOWERS < blowers {
+        return Refusal { number: 4, line: 1 };
+    }
+    if MAX_WAKE < wake {
+        return Refusal { number: 5, line: 1 };
+    }
+    if MAX_RATIONS < rations {
+        return Refusal { number: 6, line: 1 };
+    }
+    if agrees {
+        return Refusal { number: 0, line: 0 };
+    }
+    Refusal { number: 6, line: 1 }
+}
+
+// 7: the tank, after the tank before it.
+fn tank_fault(before: u32, tank: u32) -> bool
+    ensures { λ r. ⌜ r ≡ tankFault before tank ⌝ }
+{
+    if tank < 1 {
+        return true;
+    }
+    if MAX_TANK < tank {
+        return true;
+    }
+    tank <= before
+}
+
+// 8: the window.
+fn window_fault(slots: u32, release: u32, deadline: u32) -> bool
+    ensures { λ r. ⌜ r ≡ windowFault slots release deadline ⌝ }
+{
+    if release < 1 {
+        return true;
+    }
+    if deadline < release {
+        return true;
+    }
+    slots < deadline
+}
+
+// 9: the volume, of a window that is in order.
+fn volume_fault(release: u32, deadline: u32, volume: u32) -> bool
+    requires { ⌜ (1 ≤ release) × (release ≤ deadline) ⌝ }
+    ensures { λ r. ⌜ r ≡ volumeFault release deadline volume ⌝ }
+{
+    if volume == 0 {
+        return true;
+    }
+    deadline - release + 1 < volume
+}
+
+// 7 to 9: one ration, on its line, after the tank before it.
+fn ration_refusal(
+    slots: u32,
+    line: u32,
+    before: u32,
+    tank: u32,
+    release: u32,
+    deadline: u32,
+    volume: u32,
+) -> Refusal
+    ensures { λ r. ⌜ r ≡ firstRefusal (jobFaults slots line before (job tank release deadline volume)) ⌝ }
+{
+    if tank_fault(before, tank) {
+        return Refusal { number: 7, line };
+    }
+    if window_fault(slots, release, deadline) {
+        return Refusal { number: 8, line };
+    }
+    if volume_fault(release, deadline, volume) {
+        return Refusal { number: 9, line };
+    }
+    Refusal { number: 0, line: 0 }
+}
+
+// 7 to 9: n rations as flat numbers, four for each, line by line.
+pub fn rations_refusal(slots: u32, n: usize, numbers: &[u32]) -> Refusal
+    requires { ⌜ (n ≤ maxRations) × (fields * n ≤ length (now numbers)) ⌝ }
+    ensures { λ r. ⌜ r ≡ firstRefusal (jobsFaults slots 2 0 (jobsOf (take (fields * n) (now (numbers .entry))))) ⌝ }
+{
+    let mut before = 0;
+    let mut i = 0;
+    while i < n {
+        let at = 4 * i;
+        let tank = numbers[at];
+        let r = ration_refusal(
+            slots,
+            i as u32 + 2,
+            before,
+            tank,
+            numbers[at + 1],
+            numbers[at + 2],
+            numbers[at + 3],
+        );
+        if r.number != 0 {
+            return r;
+        }
+        before = tank;
+        i += 1;
+    }
+    Refusal { number: 0, line: 0 }
+}

@@ -1,0 +1,52 @@
+-- `sheet_cases::main` is safe and ends. The loop's invariant: the room keeps its length. The measure is how many cases are left.
+-- Assumes nothing.
+use mathlib.Core.Path.{_≡_}
+use lib.ListN.{length}
+use borrow.Author.Needs.{needs}
+use Rattle.sheet_cases.proofs.main.Statement.{statement}
+use Rattle.sheet_cases.proofs.main.Tie as tie
+
+abbrev Inv-loop : tie.InvT-loop
+Inv-loop room₀ cases₀ room cases = 65541 ≡ length room
+
+abbrev μ-loop : tie.MeasureT-loop
+μ-loop room₀ cases₀ room cases = cases
+
+loop-holds : tie.Need-loop-holds Inv-loop μ-loop
+loop-holds c = search needs
+
+slice-aggregate-answer-next : tie.Need-slice-aggregate-answer-next Inv-loop μ-loop
+slice-aggregate-answer-next c = search needs
+
+answer-next-requires : tie.Need-answer-next-requires Inv-loop μ-loop
+answer-next-requires c κs = search needs
+
+sub-cases : tie.Need-sub-cases Inv-loop μ-loop
+sub-cases c = search needs
+
+loop-less : tie.Need-loop-less Inv-loop μ-loop
+loop-less c = search needs
+
+loop-again : tie.Need-loop-again Inv-loop μ-loop
+loop-again c = search needs
+
+returns : tie.Need-returns Inv-loop μ-loop
+returns c = search needs
+
+returns-2 : tie.Need-returns-2 Inv-loop μ-loop
+returns-2 c = search needs
+
+pub main-spec : {M : Type 1} → statement M
+main-spec =
+    tie.close
+    (tie.spec
+    Inv-loop
+    μ-loop
+    loop-holds
+    slice-aggregate-answer-next
+    answer-next-requires
+    sub-cases
+    loop-less
+    loop-again
+    returns
+    returns-2)

@@ -1,0 +1,76 @@
+//! Case files for the gate programs: a stream of cases, and the output expected of
+//! a program that answers them one after another.
+
+pub mod sheet;
+
+/// Bytes of a case's header.
+const HEADER: usize = 16;
+
+/// One case: an operation, one number and the bytes it works on.
+#[derive(Clone, Debug, PartialEq, Eq)]
+pub struct Case {
+    pub operation: u8,
+    pub argument: u32,
+    pub payload: Vec<u8>,
+}
+
+impl Case {
+    pub fn new(operation: u8, argument: u32, payload: impl Into<Vec<u8>>) -> Self {
+        Case {
+            operation,
+            argument,
+            payload: payload.into(),
+        }
+    }
+}
+
+/// Marks the end of a stream.
+const END: u8 = b'E';
+
+/// The stream: for each case the operation, the argument in five columns, a blank,
+/// the payload's length in eight columns, byte 10 and the payload; at the end a
+/// header with operation `E`.
+pub fn stream(cases: &[Case]) -> Vec<u8> {
+    let mut bytes = Vec::new();
+    let end = Case::new(END, 0, []);
+    for case in cases.iter().chain([&end]) {
+        bytes.push(case.operation);
+        let numbers = format!("{:>5} {:>8}\n", case.argument, case.payload.len());
+        assert_eq!(1 + numbers.len(), HEADER);
+        bytes.extend(numbers.into_bytes());
+        bytes.extend(&case.payload);
+    }
+    bytes
+}
+
+/// The cases of a stream, up to its `E` header.
+pub fn parse(mut bytes: &[u8]) -> Vec<Case> {
+    let mut cases = Vec::new();
+    loop {
+        let (header, rest) = bytes.split_at(HEADER);
+        if header[0] == END {
+            return cases;
+        }
+        let (payload, rest) = rest.split_at(decimal(&header[7..15]) as usize);
+        cases.push(Case::new(header[0], decimal(&header[1..6]), payload));
+        bytes = rest;
+    }
+}
+
+/// The number in a right-justified column.
+fn decimal(column: &[u8]) -> u32 {
+    let text = std::str::from_utf8(column).expect("a column is ASCII");
+    text.trim_start().parse().expect("a column holds a number")
+}
+
+/// The bytes a lent buffer holds before the call: (i × 7 + 3) modulo 256 at index i.
+pub fn lent_buffer(length: usize) -> Vec<u8> {
+    (0..length).map(|i| (i * 7 + 3) as u8).collect()
+}
+
+/// A digest of a buffer: from 0, h becomes (h × 31 + byte) modulo 65,521.
+pub fn digest(bytes: &[u8]) -> u32 {
+    bytes
+        .iter()
+        .fold(0, |h, &b| (h * 31 + u32::from(b)) % 65_521)
+}

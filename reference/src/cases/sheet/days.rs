@@ -1,0 +1,168 @@
+//! Sheets in good form whose values are accepted, or at fault by checks 3 to 9.
+
+use super::Lines;
+
+/// The first sheet of document 01.
+pub fn first_day() -> Lines {
+    vec![[4, 2, 2, 3], [1, 1, 2, 2], [2, 1, 4, 2], [3, 2, 3, 1]]
+}
+
+/// A sheet of document 01 that is well-formed and has no sound placing.
+pub fn held_day() -> Lines {
+    vec![[3, 1, 1, 2], [1, 1, 2, 2], [2, 2, 3, 2]]
+}
+
+/// 96 slots, 8 blowers, wake cost 200, 64 rations up to tank 999.
+pub fn full_day() -> Lines {
+    let mut lines = vec![[96, 8, 200, 64]];
+    for i in 1..=64 {
+        let tank = if i == 64 { 999 } else { 15 * i + 1 };
+        let first = 1 + (i * 37) % 90;
+        let last = (first + (i * 11) % 60).min(96);
+        let volume = 1 + (i * 5) % (last - first + 1);
+        lines.push([tank, first, last, volume]);
+    }
+    lines
+}
+
+/// A day with some line's field set to another value.
+pub fn with(mut lines: Lines, line: usize, field: usize, value: u32) -> Lines {
+    lines[line][field] = value;
+    lines
+}
+
+/// The sheets whose values are good, or at fault by checks 3 to 9 alone.
+pub fn value_sheets() -> Vec<Lines> {
+    let mut sheets = vec![first_day(), held_day(), full_day()];
+    sheets.push(vec![[3, 1, 4, 0]]);
+    sheets.push(vec![[1, 1, 0, 0]]);
+    sheets.push(vec![[96, 8, 200, 0]]);
+    sheets.push(vec![[1, 1, 200, 1], [1, 1, 1, 1]]);
+    sheets.push(vec![[96, 8, 200, 1], [999, 1, 96, 96]]);
+    sheets.push(vec![[96, 8, 200, 2], [998, 96, 96, 1], [999, 1, 96, 1]]);
+
+    // Checks 3, 4 and 5: at the limit and beyond it.
+    for slots in [0, 3, 4, 5, 95, 96, 97, 256, 352, 65_536, 99_999] {
+        sheets.push(with(first_day(), 0, 0, slots));
+    }
+    for slots in [0, 1, 96, 97] {
+        sheets.push(vec![[slots, 1, 1, 0]]);
+    }
+    for blowers in [0, 1, 8, 9, 256, 264, 65_537, 99_999] {
+        sheets.push(with(first_day(), 0, 1, blowers));
+    }
+    for wake in [0, 199, 200, 201, 256, 65_536, 99_999] {
+        sheets.push(with(first_day(), 0, 2, wake));
+    }
+
+    // Check 6: the number of rations against the lines.
+    for n in [0, 1, 2, 4, 64, 65, 256, 259, 65_539, 99_999] {
+        sheets.push(with(first_day(), 0, 3, n));
+    }
+    sheets.push(with(full_day(), 0, 3, 63));
+    sheets.push(with(full_day(), 0, 3, 65));
+    let mut one_more = full_day();
+    one_more[64][0] = 998;
+    one_more.push([999, 1, 1, 1]);
+    sheets.push(one_more.clone());
+    sheets.push(with(one_more, 0, 3, 65));
+    sheets.push(vec![[4, 2, 2, 1]]);
+
+    // Checks 7, 8 and 9 on the first, a middle and the last ration line.
+    for line in 1..=3 {
+        let tank_before = if line == 1 { 0 } else { line as u32 - 1 };
+        for tank in [0, tank_before, 999, 1000, 1001, 65_537, 99_999] {
+            sheets.push(with(first_day(), line, 0, tank));
+        }
+        for first in [0, 1, 2, 3, 4, 5, 65_537, 99_999] {
+            sheets.push(with(first_day(), line, 1, first));
+        }
+        for last in [0, 1, 2, 3, 4, 5, 96, 260, 65_540, 99_999] {
+            sheets.push(with(first_day(), line, 2, last));
+        }
+        let [_, first, last, _] = first_day()[line];
+        let window = last - first + 1;
+        for volume in [0, 1, window, window + 1, 96, 65_537, 99_999] {
+            sheets.push(with(first_day(), line, 3, volume));
+        }
+    }
+    for (line, field, value) in [
+        (64, 0, 1000),
+        (64, 0, 946),
+        (64, 0, 945),
+        (33, 0, 481),
+        (33, 0, 480),
+        (33, 0, 497),
+        (33, 0, 511),
+        (64, 2, 97),
+        (64, 1, 0),
+        (64, 3, 0),
+        (64, 3, 97),
+        (33, 3, 0),
+    ] {
+        sheets.push(with(full_day(), line, field, value));
+    }
+    let mut falling = first_day();
+    falling.swap(1, 3);
+    sheets.push(falling);
+    sheets.push(vec![[4, 2, 2, 2], [5, 1, 2, 2], [5, 1, 2, 2]]);
+    sheets.push(vec![[4, 2, 2, 3], [1, 1, 2, 2], [3, 1, 4, 2], [2, 2, 3, 1]]);
+
+    sheets.extend(paired_faults());
+    sheets
+}
+
+/// Sheets with several faults, which show the order of the checks.
+pub fn paired_faults() -> Vec<Lines> {
+    let good = first_day();
+    let head = |slots, blowers, wake, n| {
+        let mut lines = first_day();
+        lines[0] = [slots, blowers, wake, n];
+        lines
+    };
+    let mut sheets = vec![
+        head(0, 0, 2, 3),
+        head(97, 9, 201, 65),
+        head(97, 2, 201, 3),
+        head(97, 2, 2, 65),
+        head(4, 9, 201, 3),
+        head(4, 0, 2, 4),
+        head(4, 2, 201, 4),
+        head(4, 2, 201, 65),
+    ];
+    // 3 to 6 in the head line with 7 below it.
+    for lines in [
+        head(97, 2, 2, 3),
+        head(4, 9, 2, 3),
+        head(4, 2, 201, 3),
+        head(4, 2, 2, 2),
+        head(4, 2, 2, 65),
+    ] {
+        sheets.push(with(lines, 1, 0, 0));
+    }
+    // Two of 7, 8 and 9 on one line, then on two lines in both orders.
+    let faults: [(usize, u32); 3] = [(0, 0), (1, 0), (3, 0)];
+    for (i, &(field, value)) in faults.iter().enumerate() {
+        for (j, &(other_field, other_value)) in faults.iter().enumerate() {
+            if i < j {
+                for line in 1..=3 {
+                    let one = with(good.clone(), line, field, value);
+                    sheets.push(with(one, line, other_field, other_value));
+                }
+            }
+            for (line, later) in [(1, 2), (2, 3), (1, 3)] {
+                let one = with(good.clone(), line, field, value);
+                sheets.push(with(one, later, other_field, other_value));
+            }
+        }
+    }
+    // All three on one line; a bad window whose length would be below zero; a
+    // volume that is too long for a window that ends past the day.
+    let two = with(with(good.clone(), 2, 0, 1), 2, 2, 5);
+    sheets.push(with(two, 2, 3, 9));
+    sheets.push(with(with(good.clone(), 1, 1, 4), 1, 2, 1));
+    sheets.push(with(with(good.clone(), 3, 2, 5), 3, 3, 5));
+    // The tank after a faulty tank is not reached.
+    sheets.push(with(with(good, 1, 0, 999), 2, 0, 1000));
+    sheets
+}

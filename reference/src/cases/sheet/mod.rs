@@ -1,0 +1,197 @@
+//! Cases for reading, writing and looking up: `R` reads the payload and writes the
+//! values back, `F` looks up the argument's tank in the payload, `W` writes the
+//! values listed in the payload into a lent buffer as long as the argument says.
+
+mod calls;
+mod days;
+mod forms;
+
+use super::{digest, lent_buffer, Case};
+use crate::sheet::{find, line_text, read, write};
+
+/// All cases of this gate program.
+pub fn cases() -> Vec<Case> {
+    let mut cases: Vec<Case> = days::value_sheets()
+        .iter()
+        .map(|lines| read_case(text(lines)))
+        .collect();
+    cases.extend(forms::length_cases());
+    cases.extend(forms::byte_cases());
+    cases.extend(forms::field_cases());
+    cases.extend(forms::form_fault_cases());
+    cases.extend(calls::find_cases());
+    cases.extend(calls::write_cases());
+    cases.extend(calls::generated_cases());
+    cases
+}
+
+/// The output expected for these cases.
+pub fn output(cases: &[Case]) -> Vec<u8> {
+    cases.iter().flat_map(answer).collect()
+}
+
+fn answer(case: &Case) -> Vec<u8> {
+    match case.operation {
+        b'R' => answer_read(&case.payload),
+        b'F' => answer_find(&case.payload, case.argument),
+        b'W' => answer_write(&case.payload, case.argument as usize),
+        other => panic!("no operation {other}"),
+    }
+}
+
+/// `R number line` and the values of an accepted sheet, then `W 0 0 length same`
+/// for the sheet written back.
+fn answer_read(bytes: &[u8]) -> Vec<u8> {
+    let sheet = match read(bytes) {
+        Ok(sheet) => sheet,
+        Err(refusal) => return format!("R {} {}\n", refusal.number, refusal.line).into_bytes(),
+    };
+    let n = sheet.rations.len() as u32;
+    let flat = sheet.flat_rations();
+    let mut values = vec![0, 0, sheet.slots, sheet.blowers, sheet.wake, n];
+    values.extend(&flat);
+    let words: Vec<String> = values.iter().map(u32::to_string).collect();
+
+    let mut buffer = lent_buffer(bytes.len());
+    let (number, line, length) = write(
+        sheet.slots,
+        sheet.blowers,
+        sheet.wake,
+        n,
+        &flat,
+        &mut buffer,
+    );
+    let same = u32::from(buffer == bytes);
+    format!("R {}\nW {number} {line} {length} {same}\n", words.join(" ")).into_bytes()
+}
+
+/// `F length` and the bytes of the part.
+fn answer_find(bytes: &[u8], tank: u32) -> Vec<u8> {
+    let part = find(bytes, tank);
+    let mut output = format!("F {}\n", part.len()).into_bytes();
+    output.extend(part);
+    output
+}
+
+/// `W number line length`, then `D` and the digest of the whole lent buffer.
+fn answer_write(numbers: &[u8], buffer_length: usize) -> Vec<u8> {
+    let text = std::str::from_utf8(numbers).expect("the numbers are ASCII");
+    let values: Vec<u32> = text
+        .lines()
+        .map(|line| line.parse().expect("each line holds a number of 32 bits"))
+        .collect();
+    let mut buffer = lent_buffer(buffer_length);
+    let (number, line, length) = write(
+        values[0],
+        values[1],
+        values[2],
+        values[3],
+        &values[4..],
+        &mut buffer,
+    );
+    format!("W {number} {line} {length}\nD {}\n", digest(&buffer)).into_bytes()
+}
+
+/// A sheet as its lines of four numbers, the head line first.
+type Lines = Vec<[u32; 4]>;
+
+fn text(lines: &[[u32; 4]]) -> Vec<u8> {
+    lines.iter().flat_map(|&line| line_text(line)).collect()
+}
+
+fn read_case(payload: impl Into<Vec<u8>>) -> Case {
+    Case::new(b'R', 0, payload)
+}
+
+fn find_case(tank: u32, payload: impl Into<Vec<u8>>) -> Case {
+    Case::new(b'F', tank, payload)
+}
+
+fn write_case(buffer_length: usize, numbers: &[u32]) -> Case {
+    let payload: String = numbers.iter().map(|v| format!("{v}\n")).collect();
+    Case::new(b'W', buffer_length as u32, payload)
+}
+
+#[cfg(test)]
+mod tests {
+    use super::days::{first_day, with};
+    use super::*;
+    use crate::cases::{parse, stream};
+    use crate::sheet::LINE;
+
+    fn answer_text(case: Case) -> String {
+        String::from_utf8(output(&[case])).expect("ASCII")
+    }
+
+    #[test]
+    fn the_stream_holds_the_cases() {
+        let cases = cases();
+        let bytes = stream(&cases);
+        assert!(bytes.len() < 1_500_000);
+        assert_eq!(parse(&bytes), cases);
+    }
+
+    #[test]
+    fn every_accepted_sheet_keeps_its_bytes() {
+        for case in cases().into_iter().filter(|c| c.operation == b'R') {
+            let answer = answer_text(case.clone());
+            match answer.lines().nth(1) {
+                None => assert!(!answer.starts_with("R 0")),
+                Some(line) => assert_eq!(line, format!("W 0 0 {} 1", case.payload.len())),
+            }
+        }
+    }
+
+    #[test]
+    fn every_refusal_is_shown() {
+        let answers: Vec<String> = cases().into_iter().map(answer_text).collect();
+        for number in 0..=9 {
+            let shown = |a: &String| a.starts_with(&format!("R {number} "));
+            assert!(answers.iter().any(shown), "read {number}");
+        }
+        for number in [0, 3, 4, 5, 6, 7, 8, 9, 10] {
+            let shown = |a: &String| a.starts_with(&format!("W {number} "));
+            assert!(answers.iter().any(shown), "write {number}");
+        }
+        assert!(answers.iter().any(|a| a.starts_with("F 0\n")));
+        assert!(answers.iter().any(|a| a.starts_with("F 21\n")));
+    }
+
+    #[test]
+    fn the_first_day_is_answered() {
+        let day = first_day();
+        assert_eq!(
+            answer_text(read_case(text(&day))),
+            "R 0 0 4 2 2 3 1 1 2 2 2 1 4 2 3 2 3 1\nW 0 0 84 1\n"
+        );
+        assert_eq!(
+            answer_text(find_case(2, text(&day))),
+            "F 21\n    2    1    4    2\n"
+        );
+        assert_eq!(answer_text(find_case(4, text(&day))), "F 0\n");
+        assert!(answer_text(write_case(83, &day.concat())).starts_with("W 10 0 0\n"));
+        assert!(answer_text(write_case(84, &day.concat())).starts_with("W 0 0 84\n"));
+    }
+
+    #[test]
+    fn the_order_of_checks_shows() {
+        let day = first_day();
+        let refusal = |lines: &Lines| answer_text(read_case(text(lines)));
+        let mut two_and_three = text(&with(day.clone(), 0, 0, 97));
+        two_and_three[3 * LINE] = b'x';
+        assert_eq!(answer_text(read_case(two_and_three)), "R 2 4\n");
+        assert_eq!(
+            refusal(&with(with(day.clone(), 0, 3, 4), 1, 0, 0)),
+            "R 6 1\n"
+        );
+        assert_eq!(
+            refusal(&with(with(day.clone(), 1, 3, 0), 2, 0, 0)),
+            "R 9 2\n"
+        );
+        assert_eq!(
+            refusal(&with(with(day.clone(), 2, 3, 0), 2, 1, 0)),
+            "R 8 3\n"
+        );
+        assert_eq!(refusal(&with(with(day, 3, 0, 2), 3, 1, 0)), "R 7 4\n");
+    }
+}

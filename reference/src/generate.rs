@@ -1,0 +1,244 @@
+//! Generated sheets: good ones of several kinds, and damage to their bytes.
+
+use crate::draws::Draws;
+use crate::placing::shown_set;
+use crate::sheet::{
+    line_text, Ration, Sheet, FIELD, LINE, MOST_BLOWERS, MOST_RATIONS, MOST_SLOTS, MOST_TANK,
+    MOST_WAKE,
+};
+
+/// The greatest sizes a generated sheet may have.
+#[derive(Clone, Copy, Debug)]
+pub struct Limits {
+    pub slots: u32,
+    pub blowers: u32,
+    pub wake: u32,
+    pub rations: u32,
+}
+
+/// The limits of the sheet itself.
+pub const FULL: Limits = Limits {
+    slots: MOST_SLOTS,
+    blowers: MOST_BLOWERS,
+    wake: MOST_WAKE,
+    rations: MOST_RATIONS,
+};
+
+/// `count` tanks rising strictly, spread over 1 to 999.
+fn rising_tanks(draws: &mut Draws, count: usize) -> Vec<u32> {
+    let mut tanks = Vec::new();
+    let mut before = 0;
+    for left in (0..count as u32).rev() {
+        // Leave one number for each tank still to come.
+        let room = MOST_TANK - left - before;
+        before += draws.between(1, room.min(30));
+        tanks.push(before);
+    }
+    tanks
+}
+
+/// A wake cost: small as often as not, since small ones decide between off and on.
+fn some_wake(draws: &mut Draws, limits: Limits) -> u32 {
+    if draws.one_in(2) {
+        draws.between(0, limits.wake.min(12))
+    } else {
+        draws.between(0, limits.wake)
+    }
+}
+
+/// A well-formed sheet with windows and volumes at random. Volumes are kept near
+/// the day's capacity, so that some of these sheets have a plan and some are held.
+pub fn random_sheet(draws: &mut Draws, limits: Limits) -> Sheet {
+    let slots = draws.between(1, limits.slots);
+    let blowers = draws.between(1, limits.blowers);
+    let wake = some_wake(draws, limits);
+    let n = draws.between(0, limits.rations);
+    let fair_volume = (slots * blowers / n.max(1)).max(1);
+    let rations = rising_tanks(draws, n as usize)
+        .into_iter()
+        .map(|tank| {
+            let first = draws.between(1, slots);
+            let last = draws.between(first, slots);
+            let window = last - first + 1;
+            let most = match draws.below(8) {
+                0 => window,
+                1 | 2 => 2 * fair_volume,
+                _ => fair_volume,
+            };
+            let volume = draws.between(1, window.min(most));
+            Ration {
+                tank,
+                first,
+                last,
+                volume,
+            }
+        })
+        .collect();
+    Sheet {
+        slots,
+        blowers,
+        wake,
+        rations,
+    }
+}
+
+/// A well-formed sheet on which every window is the whole day.
+pub fn whole_day_sheet(draws: &mut Draws, limits: Limits) -> Sheet {
+    let mut sheet = random_sheet(draws, limits);
+    let slots = sheet.slots;
+    for ration in &mut sheet.rations {
+        ration.first = 1;
+        ration.last = slots;
+    }
+    sheet
+}
+
+/// A sheet built around a hidden placing, which is sound, with windows hardly
+/// wider than the slots chosen: it has a plan, and few placings to choose from.
+pub fn tight_sheet(draws: &mut Draws, limits: Limits) -> Sheet {
+    let slots = draws.between(1, limits.slots);
+    let blowers = draws.between(1, limits.blowers);
+    let wake = some_wake(draws, limits);
+    let n = draws.between(1, limits.rations.max(1)) as usize;
+    let mut chosen = vec![Vec::new(); n];
+    for slot in 1..=slots {
+        let feedings = if draws.one_in(4) {
+            draws.between(0, blowers)
+        } else {
+            blowers
+        };
+        for _ in 0..feedings {
+            // Rations near each other in the list are fed near each other in the day.
+            let near = (slot as usize * n) / (slots as usize + 1);
+            let i = (near + draws.index(n.min(12))) % n;
+            if chosen[i].last() != Some(&slot) {
+                chosen[i].push(slot);
+            }
+        }
+    }
+    chosen.retain(|fed| !fed.is_empty());
+    let slack = draws.below(4);
+    let tanks = rising_tanks(draws, chosen.len());
+    let rations = chosen
+        .iter()
+        .zip(tanks)
+        .map(|(fed, tank)| Ration {
+            tank,
+            first: (fed[0].saturating_sub(draws.between(0, slack))).max(1),
+            last: (fed[fed.len() - 1] + draws.between(0, slack)).min(slots),
+            volume: fed.len() as u32,
+        })
+        .collect();
+    Sheet {
+        slots,
+        blowers,
+        wake,
+        rations,
+    }
+}
+
+/// A tight sheet with one or more rations made harder to place: a longer volume, a
+/// shorter window or fewer blowers. It is well-formed, and often without a plan.
+pub fn crowded_sheet(draws: &mut Draws, limits: Limits) -> Sheet {
+    let mut sheet = tight_sheet(draws, limits);
+    if draws.one_in(3) && sheet.blowers > 1 {
+        sheet.blowers -= 1;
+    }
+    for ration in &mut sheet.rations {
+        let window = ration.last - ration.first + 1;
+        match draws.below(4) {
+            0 => ration.volume = draws.between(ration.volume, window),
+            1 if window > ration.volume => ration.last -= 1,
+            2 if window > ration.volume => ration.first += 1,
+            _ => {}
+        }
+    }
+    sheet
+}
+
+/// A well-formed sheet without a sound placing.
+pub fn held_sheet(draws: &mut Draws, limits: Limits) -> Sheet {
+    loop {
+        let sheet = crowded_sheet(draws, limits);
+        if shown_set(&sheet).is_some() {
+            return sheet;
+        }
+    }
+}
+
+/// A well-formed sheet of any kind.
+pub fn any_sheet(draws: &mut Draws, limits: Limits) -> Sheet {
+    match draws.below(5) {
+        0 => random_sheet(draws, limits),
+        1 => whole_day_sheet(draws, limits),
+        2 => tight_sheet(draws, limits),
+        3 => crowded_sheet(draws, limits),
+        _ => held_sheet(draws, limits),
+    }
+}
+
+/// Bytes that a fault in a field may show.
+const ODD_BYTES: [u8; 14] = [0, 9, 10, 13, 32, 43, 45, 47, 48, 49, 57, 58, 128, 255];
+
+/// Values at and beyond the limits of the fields.
+const ODD_VALUES: [u32; 16] = [
+    0, 1, 2, 8, 9, 63, 64, 65, 96, 97, 200, 201, 999, 1000, 65_536, 99_999,
+];
+
+/// Damages a sheet's bytes in one place: a byte, the length, a field or the order
+/// of lines. The damage may happen to leave a good sheet.
+pub fn damage(draws: &mut Draws, bytes: &mut Vec<u8>) {
+    let lines = bytes.len() / LINE;
+    if lines == 0 {
+        bytes.push(draws.below(256) as u8);
+        return;
+    }
+    match draws.below(8) {
+        0 => {
+            let at = draws.index(bytes.len());
+            bytes[at] = ODD_BYTES[draws.index(ODD_BYTES.len())];
+        }
+        1 => {
+            let at = draws.index(bytes.len());
+            bytes[at] = draws.below(256) as u8;
+        }
+        2 => {
+            let cut = draws.index(bytes.len());
+            bytes.truncate(cut);
+        }
+        3 => {
+            for _ in 0..draws.between(1, 2 * LINE as u32) {
+                bytes.push(ODD_BYTES[draws.index(ODD_BYTES.len())]);
+            }
+        }
+        4 | 5 => {
+            let value = ODD_VALUES[draws.index(ODD_VALUES.len())];
+            let at = draws.index(lines) * LINE + draws.index(4) * FIELD;
+            bytes[at..at + FIELD].copy_from_slice(format!("{value:>5}").as_bytes());
+        }
+        6 => {
+            let (a, b) = (draws.index(lines) * LINE, draws.index(lines) * LINE);
+            for i in 0..LINE {
+                bytes.swap(a + i, b + i);
+            }
+        }
+        _ => {
+            let at = draws.index(lines) * LINE;
+            if draws.one_in(2) {
+                bytes.drain(at..at + LINE);
+            } else {
+                let values = [0; 4].map(|_: u32| ODD_VALUES[draws.index(ODD_VALUES.len())]);
+                bytes.splice(at..at, line_text(values));
+            }
+        }
+    }
+}
+
+/// The bytes of a sheet, damaged in one to three places.
+pub fn damaged_sheet(draws: &mut Draws, limits: Limits) -> Vec<u8> {
+    let mut bytes = any_sheet(draws, limits).text();
+    for _ in 0..draws.between(1, 3) {
+        damage(draws, &mut bytes);
+    }
+    bytes
+}

@@ -1,0 +1,11 @@
+//! A second implementation of the feed-day planner of document 01, made straight
+//! from its definitions and a max flow, to say what the planner must answer.
+
+pub mod cases;
+pub mod draws;
+pub mod flow;
+pub mod generate;
+pub mod listing;
+pub mod method;
+pub mod placing;
+pub mod sheet;

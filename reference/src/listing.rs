@@ -1,0 +1,123 @@
+//! The listing of a plan and of a held sheet, the program's output, the planning
+//! call and the comparison.
+
+use crate::method::{self, Plan};
+use crate::placing::{Question, SlotSet};
+use crate::sheet::{line_text, read, Refusal, Sheet, MOST_RATIONS, MOST_SLOTS};
+
+/// The least plan buffer: `PLAN`, its head line, and for each of 8 blowers and 96
+/// slots one stretch line and one feed line.
+pub const PLAN_BUFFER: usize = 32_282;
+/// The least placing buffer: a byte for each of 64 rations and 96 slots.
+pub const PLACING_BUFFER: usize = (MOST_RATIONS * MOST_SLOTS) as usize;
+
+/// The listing of a plan.
+pub fn plan_text(plan: &Plan) -> Vec<u8> {
+    let mut text = b"PLAN\n".to_vec();
+    let (stretches, feedings) = (plan.stretches.len() as u32, plan.feedings.len() as u32);
+    text.extend(line_text([plan.energy, plan.starts, stretches, feedings]));
+    for s in &plan.stretches {
+        text.extend(line_text([s.blower, s.first, s.last, s.state as u32]));
+    }
+    for f in &plan.feedings {
+        text.extend(line_text([f.slot, f.blower, f.tank, f.part]));
+    }
+    text
+}
+
+/// The listing of a sheet that is held for want of blowers, with the slots shown.
+pub fn held_text(sheet: &Sheet, shown: &SlotSet) -> Vec<u8> {
+    let slots: Vec<u32> = (1..=sheet.slots)
+        .filter(|&t| shown[t as usize - 1])
+        .collect();
+    let size = slots.len() as u32;
+    let forced = Question::of_day(sheet).forced(shown);
+    let mut text = b"HELD\n".to_vec();
+    text.extend(line_text([12, size, forced, size * sheet.blowers]));
+    for slot in slots {
+        text.extend(line_text([slot, 0, 0, 0]));
+    }
+    text
+}
+
+/// The listing for every number but 0 and 12.
+pub fn refusal_text(refusal: Refusal) -> Vec<u8> {
+    let mut text = b"HELD\n".to_vec();
+    text.extend(line_text([refusal.number, refusal.line, 0, 0]));
+    text
+}
+
+/// The program's whole output for the bytes of its standard input.
+pub fn program(bytes: &[u8]) -> Vec<u8> {
+    match read(bytes) {
+        Err(refusal) => refusal_text(refusal),
+        Ok(sheet) => match method::plan(&sheet) {
+            Ok(plan) => plan_text(&plan),
+            Err(shown) => held_text(&sheet, &shown),
+        },
+    }
+}
+
+/// The planning call: number, line and length. Checks 1 to 9, 10 for each buffer
+/// that is lent, then 12. Without a plan buffer the length is 0. Numbers 0 and 12
+/// settle the first 6,144 bytes of a lent placing buffer; bytes after what is
+/// written keep their values.
+pub fn plan(
+    bytes: &[u8],
+    plan_buffer: Option<&mut [u8]>,
+    placing_buffer: Option<&mut [u8]>,
+) -> (u32, u32, usize) {
+    let sheet = match read(bytes) {
+        Ok(sheet) => sheet,
+        Err(Refusal { number, line }) => return (number, line, 0),
+    };
+    let short =
+        |buffer: &Option<&mut [u8]>, least: usize| buffer.as_ref().is_some_and(|b| b.len() < least);
+    if short(&plan_buffer, PLAN_BUFFER) || short(&placing_buffer, PLACING_BUFFER) {
+        return (10, 0, 0);
+    }
+    let outcome = method::plan(&sheet);
+    if let Some(buffer) = placing_buffer {
+        buffer[..PLACING_BUFFER].fill(0);
+        if let Ok(plan) = &outcome {
+            for (i, row) in plan.placing.iter().enumerate() {
+                for (t, &fed) in row.iter().enumerate() {
+                    buffer[i * MOST_SLOTS as usize + t] = u8::from(fed);
+                }
+            }
+        }
+    }
+    let (number, text) = match &outcome {
+        Ok(plan) => (0, plan_text(plan)),
+        Err(shown) => (12, held_text(&sheet, shown)),
+    };
+    match plan_buffer {
+        Some(buffer) => {
+            buffer[..text.len()].copy_from_slice(&text);
+            (number, 0, text.len())
+        }
+        None => (number, 0, 0),
+    }
+}
+
+/// The comparison: number, line and whether the plans are the same day, that is D
+/// and every slot's count agree. All checks of the first sheet, 12 included, come
+/// before those of the second.
+pub fn compare(first: &[u8], second: &[u8]) -> (u32, u32, bool) {
+    let counts = |bytes: &[u8]| -> Result<Vec<u32>, Refusal> {
+        let sheet = read(bytes)?;
+        match method::plan(&sheet) {
+            Ok(plan) => Ok(plan.counts),
+            Err(_) => Err(Refusal {
+                number: 12,
+                line: 0,
+            }),
+        }
+    };
+    let both = counts(first).and_then(|one| Ok((one, counts(second)?)));
+    match both {
+        // A list of counts is as long as its day.
+        Ok((one, other)) => (0, 0, one == other),
+        Err(Refusal { number, line }) => (number, line, false),
+    }
+}

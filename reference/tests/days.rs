@@ -1,0 +1,234 @@
+//! The days that document 01 names, and two more that tell the method from others.
+
+use reference::listing::{compare, plan, program, PLACING_BUFFER, PLAN_BUFFER};
+use reference::method::{self, Plan, State};
+use reference::placing::{bounds, shortfall, shown_set};
+use reference::sheet::{line_text, read};
+
+/// A sheet from its lines as document 01 writes them: head / ration / ..
+fn sheet(lines: &str) -> Vec<u8> {
+    let line = |text: &str| {
+        let numbers: Vec<u32> = text
+            .split_whitespace()
+            .map(|word| word.parse().expect("a number"))
+            .collect();
+        line_text(numbers.try_into().expect("four numbers"))
+    };
+    lines.split('/').flat_map(line).collect()
+}
+
+fn planned(lines: &str) -> Plan {
+    method::plan(&read(&sheet(lines)).expect("accepted")).expect("planned")
+}
+
+fn tanks_by_slot(plan: &Plan) -> Vec<Vec<u32>> {
+    let slots = 1..=plan.counts.len() as u32;
+    let tanks = |t| {
+        let here = plan.feedings.iter().filter(move |f| f.slot == t);
+        here.map(|f| f.tank).collect()
+    };
+    slots.map(tanks).collect()
+}
+
+const FIRST: &str = "4 2 2 3 / 1 1 2 2 / 2 1 4 2 / 3 2 3 1";
+const FIRST_LISTING: &str = "PLAN
+   10    2    4    5
+    1    1    4    2
+    2    1    2    0
+    2    3    3    2
+    2    4    4    1
+    1    1    1    1
+    2    1    1    2
+    3    1    2    1
+    3    2    3    1
+    4    1    2    2
+";
+const HELD: &str = "3 1 1 2 / 1 1 2 2 / 2 2 3 2";
+const HELD_LISTING: &str = "HELD
+   12    1    2    1
+    2    0    0    0
+";
+
+#[test]
+fn the_listing_of_document_01() {
+    assert_eq!(program(&sheet(FIRST)), FIRST_LISTING.as_bytes());
+    let plan = planned(FIRST);
+    assert_eq!(plan.counts, [1, 1, 2, 1]);
+    assert_eq!(plan.energy, 10);
+}
+
+#[test]
+fn a_day_that_is_held() {
+    assert_eq!(program(&sheet(HELD)), HELD_LISTING.as_bytes());
+    let set = shown_set(&read(&sheet(HELD)).expect("accepted"));
+    assert_eq!(set, Some(vec![false, true, false]));
+}
+
+#[test]
+fn shortfalls() {
+    assert_eq!(shortfall(&sheet(HELD), &[1, 0, 0]), (0, 0, 0));
+    assert_eq!(shortfall(&sheet(HELD), &[1, 1, 1]), (0, 0, 1));
+    assert_eq!(shortfall(&sheet(HELD), &[0, 1, 0]), (0, 0, 1));
+    assert_eq!(shortfall(&sheet(HELD), &[0, 0, 0]), (0, 0, 0));
+    assert_eq!(shortfall(&sheet(FIRST), &[0, 0, 0, 1]), (0, 0, -2));
+    assert_eq!(shortfall(&sheet(FIRST), &[0, 0, 0]), (11, 0, 0));
+    assert_eq!(shortfall(&sheet(FIRST), &[0, 0, 0, 0, 0]), (11, 0, 0));
+    assert_eq!(shortfall(&sheet(FIRST), &[0, 2, 0, 0]), (11, 0, 0));
+    assert_eq!(shortfall(&sheet("4 2 2 1"), &[9]), (6, 1, 0));
+}
+
+#[test]
+fn nearest_deadline_feeding_fails_here() {
+    let plan = planned("3 2 1 3 / 1 1 2 1 / 2 1 2 1 / 3 1 3 3");
+    assert_eq!(tanks_by_slot(&plan), [vec![1, 3], vec![2, 3], vec![3]]);
+    assert_eq!(plan.energy, 7);
+}
+
+#[test]
+fn days_without_rations() {
+    let plan = planned("3 1 4 0");
+    assert_eq!((plan.energy, plan.starts), (7, 1));
+    assert_eq!(plan.stretches[0].state, State::IdleOn);
+    let plan = planned("3 1 3 0");
+    assert_eq!((plan.energy, plan.starts), (0, 0));
+    assert_eq!(plan.stretches[0].state, State::Off);
+}
+
+#[test]
+fn the_dearest_single_feeding() {
+    assert_eq!(planned("1 1 200 1 / 1 1 1 1").energy, 201);
+}
+
+#[test]
+fn idle_comes_first() {
+    let day = "3 1 1 1 / 1 1 3 1";
+    let plan = planned(day);
+    let ends: Vec<(u32, u32, State)> = plan
+        .stretches
+        .iter()
+        .map(|s| (s.first, s.last, s.state))
+        .collect();
+    assert_eq!(ends, [(1, 2, State::Off), (3, 3, State::Busy)]);
+    assert_eq!(plan.energy, 2);
+    assert_eq!(bounds(&sheet(day), &[1, 1, 0], &[1, 1, 1]), (0, 0, false));
+    assert_eq!(bounds(&sheet(day), &[0, 1, 0], &[0, 0, 1]), (0, 0, false));
+    assert_eq!(bounds(&sheet(day), &[0, 1, 0], &[0, 9, 0]), (0, 0, true));
+    let most = u32::MAX;
+    assert_eq!(bounds(&sheet(day), &[0, 2, 0], &[most; 3]), (0, 0, false));
+    assert_eq!(bounds(&sheet(day), &[most; 3], &[most; 3]), (0, 0, false));
+    assert_eq!(bounds(&sheet(day), &[0; 2], &[1; 3]), (11, 0, false));
+    assert_eq!(bounds(&sheet(day), &[0; 3], &[1; 4]), (11, 0, false));
+    assert_eq!(bounds(&sheet(HELD), &[0; 3], &[1; 3]), (0, 0, false));
+    assert_eq!(bounds(b"", &[0; 3], &[1; 3]), (1, 0, false));
+}
+
+#[test]
+fn an_idle_stretch_as_long_as_the_wake_cost_is_off() {
+    assert_eq!(planned("3 1 2 2 / 1 1 1 1 / 2 3 3 1").energy, 5);
+    assert_eq!(planned("3 1 1 2 / 1 1 1 1 / 2 3 3 1").energy, 4);
+}
+
+#[test]
+fn sizes_beyond_the_limits() {
+    for (day, output) in [
+        ("97 2 2 0", "HELD\n    3    1    0    0\n"),
+        ("4 9 2 0", "HELD\n    4    1    0    0\n"),
+        ("4 2 201 0", "HELD\n    5    1    0    0\n"),
+    ] {
+        assert_eq!(program(&sheet(day)), output.as_bytes());
+    }
+    assert_eq!(program(b""), b"HELD\n    1    0    0    0\n");
+}
+
+#[test]
+fn blowers_are_treated_from_the_highest_down() {
+    assert_eq!(planned("2 2 1 2 / 1 1 2 1 / 2 1 2 1").counts, [1, 1]);
+}
+
+#[test]
+fn feedings_are_chosen_slot_by_slot() {
+    let plan = planned("3 1 1 3 / 1 2 3 1 / 2 1 3 1 / 3 1 2 1");
+    assert_eq!(tanks_by_slot(&plan), [[2], [3], [1]]);
+}
+
+/// The two buffers before a call, longer than what they must be.
+fn buffers() -> (Vec<u8>, Vec<u8>) {
+    (vec![7; PLAN_BUFFER + 5], vec![9; PLACING_BUFFER + 5])
+}
+
+#[test]
+fn planning_settles_every_lent_byte() {
+    let (mut listing, mut placing) = buffers();
+    let answer = plan(&sheet(FIRST), Some(&mut listing), Some(&mut placing));
+    assert_eq!(answer, (0, 0, FIRST_LISTING.len()));
+    let (written, kept) = listing.split_at(FIRST_LISTING.len());
+    assert_eq!(written, FIRST_LISTING.as_bytes());
+    assert!(kept.iter().all(|&b| b == 7));
+    let fed: Vec<usize> = (0..PLACING_BUFFER).filter(|&i| placing[i] == 1).collect();
+    assert_eq!(fed, [0, 1, 96 + 2, 96 + 3, 2 * 96 + 2]);
+    let zeros = placing[..PLACING_BUFFER].iter().filter(|&&b| b == 0);
+    assert_eq!(zeros.count(), PLACING_BUFFER - 5);
+    assert_eq!(placing[PLACING_BUFFER..], [9; 5]);
+
+    assert_eq!(plan(&sheet(FIRST), None, None), (0, 0, 0));
+    let (_, mut alone) = buffers();
+    assert_eq!(plan(&sheet(FIRST), None, Some(&mut alone)), (0, 0, 0));
+    assert_eq!(alone, placing);
+}
+
+#[test]
+fn a_held_sheet_settles_every_lent_byte() {
+    let (mut listing, mut placing) = buffers();
+    let answer = plan(&sheet(HELD), Some(&mut listing), Some(&mut placing));
+    assert_eq!(answer, (12, 0, HELD_LISTING.len()));
+    let (written, kept) = listing.split_at(HELD_LISTING.len());
+    assert_eq!(written, HELD_LISTING.as_bytes());
+    assert!(kept.iter().all(|&b| b == 7));
+    assert!(placing[..PLACING_BUFFER].iter().all(|&b| b == 0));
+    assert_eq!(placing[PLACING_BUFFER..], [9; 5]);
+
+    let (_, mut alone) = buffers();
+    assert_eq!(plan(&sheet(HELD), None, Some(&mut alone)), (12, 0, 0));
+    assert_eq!(alone, placing);
+    assert_eq!(plan(&sheet(HELD), None, None), (12, 0, 0));
+}
+
+#[test]
+fn a_refusal_changes_no_lent_byte() {
+    let (listing, placing) = buffers();
+    for (day, refusal) in [
+        (sheet("97 2 2 0"), (3, 1, 0)),
+        (sheet("4 2 2 1 / 1 1 2 3"), (9, 2, 0)),
+        (vec![], (1, 0, 0)),
+    ] {
+        let (mut one, mut other) = buffers();
+        assert_eq!(plan(&day, Some(&mut one), Some(&mut other)), refusal);
+        // A refused sheet comes before a short buffer.
+        assert_eq!(plan(&day, Some(&mut one[..3]), None), refusal);
+        assert_eq!((one, other), (listing.clone(), placing.clone()));
+    }
+    for day in [sheet(FIRST), sheet(HELD)] {
+        let (mut one, mut other) = buffers();
+        let short_plan = Some(&mut one[..PLAN_BUFFER - 1]);
+        assert_eq!(plan(&day, short_plan, Some(&mut other)), (10, 0, 0));
+        let short_placing = Some(&mut other[..PLACING_BUFFER - 1]);
+        assert_eq!(plan(&day, Some(&mut one), short_placing), (10, 0, 0));
+        assert_eq!(plan(&day, None, Some(&mut other[..0])), (10, 0, 0));
+        assert_eq!((one, other), (listing.clone(), placing.clone()));
+    }
+}
+
+#[test]
+fn comparisons() {
+    let first = sheet(FIRST);
+    assert_eq!(compare(&first, &first), (0, 0, true));
+    // Other tanks, blowers and wake cost, and the same counts.
+    let same = sheet("4 3 9 3 / 7 1 2 2 / 8 1 4 2 / 9 2 3 1");
+    assert_eq!(compare(&first, &same), (0, 0, true));
+    assert_eq!(compare(&sheet("3 1 1 0"), &sheet("4 1 1 0")), (0, 0, false));
+    assert_eq!(compare(&first, &sheet("4 2 2 0")), (0, 0, false));
+    assert_eq!(compare(&sheet(HELD), b""), (12, 0, false));
+    assert_eq!(compare(b"", &sheet(HELD)), (1, 0, false));
+    assert_eq!(compare(&first, &sheet(HELD)), (12, 0, false));
+    assert_eq!(compare(&first, &sheet("4 2 2 1 / 1 1 2 3")), (9, 2, false));
+}

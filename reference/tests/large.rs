@@ -1,0 +1,103 @@
+//! Days of all sizes: what holds of every plan and of every held sheet, without
+//! enumerating anything. Each answer of the flow is checked by what it shows, a
+//! placing or a set of slots, so these runs would stop at a wrong one.
+
+use reference::draws::Draws;
+use reference::generate::{any_sheet, damaged_sheet, held_sheet, tight_sheet, FULL};
+use reference::listing::{compare, program, PLAN_BUFFER};
+use reference::method::{self, State};
+use reference::placing::{bounds, shortfall, Question};
+use reference::sheet::{find, read, write, LINE};
+
+#[test]
+fn generated_sheets_are_well_formed_and_keep_values_and_bytes() {
+    let mut draws = Draws::new(5);
+    for _ in 0..500 {
+        let sheet = any_sheet(&mut draws, FULL);
+        let bytes = sheet.text();
+        assert_eq!(read(&bytes), Ok(sheet.clone()));
+        let mut buffer = vec![0; bytes.len()];
+        let n = sheet.rations.len() as u32;
+        let flat = sheet.flat_rations();
+        let (slots, blowers, wake) = (sheet.slots, sheet.blowers, sheet.wake);
+        let answer = write(slots, blowers, wake, n, &flat, &mut buffer);
+        assert_eq!(answer, (0, 0, bytes.len()));
+        assert_eq!(buffer, bytes);
+        for (i, ration) in sheet.rations.iter().enumerate() {
+            let line = &bytes[(i + 1) * LINE..(i + 2) * LINE];
+            assert_eq!(find(&bytes, ration.tank), line);
+        }
+    }
+}
+
+#[test]
+fn tight_sheets_are_planned() {
+    let mut draws = Draws::new(6);
+    for _ in 0..30 {
+        let sheet = tight_sheet(&mut draws, FULL);
+        let plan = method::plan(&sheet).expect("built around a sound placing");
+        assert!(Question::of_day(&sheet).is_sound(&plan.placing));
+        let bytes = sheet.text();
+        assert_eq!(bounds(&bytes, &plan.counts, &plan.counts), (0, 0, true));
+        assert_eq!(compare(&bytes, &bytes), (0, 0, true));
+        assert!(program(&bytes).len() <= PLAN_BUFFER);
+
+        // The stretches of each blower cover the day and alternate.
+        for blower in 1..=sheet.blowers {
+            let own: Vec<_> = plan
+                .stretches
+                .iter()
+                .filter(|s| s.blower == blower)
+                .collect();
+            assert_eq!(own[0].first, 1);
+            assert_eq!(own[own.len() - 1].last, sheet.slots);
+            for pair in own.windows(2) {
+                assert_eq!(pair[0].last + 1, pair[1].first);
+                let busy = pair.iter().filter(|s| s.state == State::Busy);
+                assert_eq!(busy.count(), 1);
+            }
+        }
+    }
+}
+
+#[test]
+fn held_sheets_show_a_shortfall_that_no_slot_less_has() {
+    let mut draws = Draws::new(7);
+    for _ in 0..60 {
+        let sheet = held_sheet(&mut draws, FULL);
+        let shown = method::plan(&sheet).expect_err("held");
+        let marks: Vec<u32> = shown.iter().map(|&q| u32::from(q)).collect();
+        let (_, _, greatest) = shortfall(&sheet.text(), &marks);
+        assert!(greatest > 0);
+        for t in 0..marks.len() {
+            let mut other = marks.clone();
+            other[t] = 1 - other[t];
+            let (_, _, value) = shortfall(&sheet.text(), &other);
+            assert!(if marks[t] == 1 {
+                value < greatest
+            } else {
+                value <= greatest
+            });
+        }
+    }
+}
+
+#[test]
+fn damaged_sheets_are_answered() {
+    let mut draws = Draws::new(8);
+    let mut refused = 0;
+    for _ in 0..300 {
+        let bytes = damaged_sheet(&mut draws, FULL);
+        match read(&bytes) {
+            Ok(sheet) => assert_eq!(sheet.text(), bytes),
+            Err(refusal) => {
+                refused += 1;
+                let number = format!("HELD\n{:>5}{:>5}", refusal.number, refusal.line);
+                let output = program(&bytes);
+                assert!(output.starts_with(number.as_bytes()));
+                assert_eq!(output.len(), 26);
+            }
+        }
+    }
+    assert!(refused > 150, "{refused} refused");
+}
