@@ -7,9 +7,9 @@ use crate::sheet::{
     MOST_WAKE,
 };
 
-/// The greatest sizes a generated sheet may have.
+/// The sizes of a generated sheet, or the greatest ones it may have.
 #[derive(Clone, Copy, Debug)]
-pub struct Limits {
+pub struct Sizes {
     pub slots: u32,
     pub blowers: u32,
     pub wake: u32,
@@ -17,11 +17,27 @@ pub struct Limits {
 }
 
 /// The limits of the sheet itself.
-pub const FULL: Limits = Limits {
+pub const FULL: Sizes = Sizes {
     slots: MOST_SLOTS,
     blowers: MOST_BLOWERS,
     wake: MOST_WAKE,
     rations: MOST_RATIONS,
+};
+
+/// Limits of middle sheets.
+pub const MIDDLE: Sizes = Sizes {
+    slots: 40,
+    blowers: 5,
+    wake: 60,
+    rations: 24,
+};
+
+/// Limits of small sheets.
+pub const SMALL: Sizes = Sizes {
+    slots: 12,
+    blowers: 3,
+    wake: 20,
+    rations: 6,
 };
 
 /// `count` tanks rising strictly, spread over 1 to 999.
@@ -38,23 +54,35 @@ fn rising_tanks(draws: &mut Draws, count: usize) -> Vec<u32> {
 }
 
 /// A wake cost: small as often as not, since small ones decide between off and on.
-fn some_wake(draws: &mut Draws, limits: Limits) -> u32 {
+fn some_wake(draws: &mut Draws, most: u32) -> u32 {
     if draws.one_in(2) {
-        draws.between(0, limits.wake.min(12))
+        draws.between(0, most.min(12))
     } else {
-        draws.between(0, limits.wake)
+        draws.between(0, most)
+    }
+}
+
+/// Sizes within the limits, with at least so many rations.
+fn some_sizes(draws: &mut Draws, limits: Sizes, least_rations: u32) -> Sizes {
+    Sizes {
+        slots: draws.between(1, limits.slots),
+        blowers: draws.between(1, limits.blowers),
+        wake: some_wake(draws, limits.wake),
+        rations: draws.between(least_rations, limits.rations.max(least_rations)),
     }
 }
 
 /// A well-formed sheet with windows and volumes at random. Volumes are kept near
 /// the day's capacity, so that some of these sheets have a plan and some are held.
-pub fn random_sheet(draws: &mut Draws, limits: Limits) -> Sheet {
-    let slots = draws.between(1, limits.slots);
-    let blowers = draws.between(1, limits.blowers);
-    let wake = some_wake(draws, limits);
-    let n = draws.between(0, limits.rations);
-    let fair_volume = (slots * blowers / n.max(1)).max(1);
-    let rations = rising_tanks(draws, n as usize)
+pub fn random_sheet(draws: &mut Draws, limits: Sizes) -> Sheet {
+    let sizes = some_sizes(draws, limits, 0);
+    random_sheet_of(draws, sizes)
+}
+
+fn random_sheet_of(draws: &mut Draws, sizes: Sizes) -> Sheet {
+    let slots = sizes.slots;
+    let fair_volume = (slots * sizes.blowers / sizes.rations.max(1)).max(1);
+    let rations = rising_tanks(draws, sizes.rations as usize)
         .into_iter()
         .map(|tank| {
             let first = draws.between(1, slots);
@@ -76,30 +104,37 @@ pub fn random_sheet(draws: &mut Draws, limits: Limits) -> Sheet {
         .collect();
     Sheet {
         slots,
-        blowers,
-        wake,
+        blowers: sizes.blowers,
+        wake: sizes.wake,
         rations,
     }
 }
 
 /// A well-formed sheet on which every window is the whole day.
-pub fn whole_day_sheet(draws: &mut Draws, limits: Limits) -> Sheet {
+pub fn whole_day_sheet(draws: &mut Draws, limits: Sizes) -> Sheet {
     let mut sheet = random_sheet(draws, limits);
-    let slots = sheet.slots;
+    widen(&mut sheet);
+    sheet
+}
+
+/// Makes every window the whole day.
+fn widen(sheet: &mut Sheet) {
     for ration in &mut sheet.rations {
         ration.first = 1;
-        ration.last = slots;
+        ration.last = sheet.slots;
     }
-    sheet
 }
 
 /// A sheet built around a hidden placing, which is sound, with windows hardly
 /// wider than the slots chosen: it has a plan, and few placings to choose from.
-pub fn tight_sheet(draws: &mut Draws, limits: Limits) -> Sheet {
-    let slots = draws.between(1, limits.slots);
-    let blowers = draws.between(1, limits.blowers);
-    let wake = some_wake(draws, limits);
-    let n = draws.between(1, limits.rations.max(1)) as usize;
+pub fn tight_sheet(draws: &mut Draws, limits: Sizes) -> Sheet {
+    let sizes = some_sizes(draws, limits, 1);
+    tight_sheet_of(draws, sizes)
+}
+
+fn tight_sheet_of(draws: &mut Draws, sizes: Sizes) -> Sheet {
+    let Sizes { slots, blowers, .. } = sizes;
+    let n = sizes.rations as usize;
     let mut chosen = vec![Vec::new(); n];
     for slot in 1..=slots {
         let feedings = if draws.one_in(4) {
@@ -132,15 +167,20 @@ pub fn tight_sheet(draws: &mut Draws, limits: Limits) -> Sheet {
     Sheet {
         slots,
         blowers,
-        wake,
+        wake: sizes.wake,
         rations,
     }
 }
 
 /// A tight sheet with one or more rations made harder to place: a longer volume, a
 /// shorter window or fewer blowers. It is well-formed, and often without a plan.
-pub fn crowded_sheet(draws: &mut Draws, limits: Limits) -> Sheet {
+pub fn crowded_sheet(draws: &mut Draws, limits: Sizes) -> Sheet {
     let mut sheet = tight_sheet(draws, limits);
+    crowd(draws, &mut sheet);
+    sheet
+}
+
+fn crowd(draws: &mut Draws, sheet: &mut Sheet) {
     if draws.one_in(3) && sheet.blowers > 1 {
         sheet.blowers -= 1;
     }
@@ -153,11 +193,10 @@ pub fn crowded_sheet(draws: &mut Draws, limits: Limits) -> Sheet {
             _ => {}
         }
     }
-    sheet
 }
 
 /// A well-formed sheet without a sound placing.
-pub fn held_sheet(draws: &mut Draws, limits: Limits) -> Sheet {
+pub fn held_sheet(draws: &mut Draws, limits: Sizes) -> Sheet {
     loop {
         let sheet = crowded_sheet(draws, limits);
         if shown_set(&sheet).is_some() {
@@ -167,13 +206,34 @@ pub fn held_sheet(draws: &mut Draws, limits: Limits) -> Sheet {
 }
 
 /// A well-formed sheet of any kind.
-pub fn any_sheet(draws: &mut Draws, limits: Limits) -> Sheet {
+pub fn any_sheet(draws: &mut Draws, limits: Sizes) -> Sheet {
     match draws.below(5) {
         0 => random_sheet(draws, limits),
         1 => whole_day_sheet(draws, limits),
         2 => tight_sheet(draws, limits),
         3 => crowded_sheet(draws, limits),
         _ => held_sheet(draws, limits),
+    }
+}
+
+/// A sheet of the most slots, blowers and rations: tight, crowded, random, or with
+/// 64 whole-day windows.
+pub fn full_sheet(draws: &mut Draws) -> Sheet {
+    let wake = some_wake(draws, FULL.wake);
+    let sizes = Sizes { wake, ..FULL };
+    match draws.below(4) {
+        0 => tight_sheet_of(draws, sizes),
+        1 => {
+            let mut sheet = tight_sheet_of(draws, sizes);
+            crowd(draws, &mut sheet);
+            sheet
+        }
+        2 => random_sheet_of(draws, sizes),
+        _ => {
+            let mut sheet = random_sheet_of(draws, sizes);
+            widen(&mut sheet);
+            sheet
+        }
     }
 }
 
@@ -235,7 +295,7 @@ pub fn damage(draws: &mut Draws, bytes: &mut Vec<u8>) {
 }
 
 /// The bytes of a sheet, damaged in one to three places.
-pub fn damaged_sheet(draws: &mut Draws, limits: Limits) -> Vec<u8> {
+pub fn damaged_sheet(draws: &mut Draws, limits: Sizes) -> Vec<u8> {
     let mut bytes = any_sheet(draws, limits).text();
     for _ in 0..draws.between(1, 3) {
         damage(draws, &mut bytes);

@@ -1,15 +1,17 @@
 //! The command line of the reference implementation; see README.md.
 
+use reference::cases::{self, Case};
 use reference::draws::Draws;
 use reference::generate::{self, FULL};
-use reference::{cases, listing};
+use reference::listing;
 use std::io::{self, Read, Write};
 use std::process::ExitCode;
 
 const USAGE: &str = "usage: reference plan < sheet > listing
        reference sheet KIND SEED > sheet
-       reference cases sheet-in | sheet-out
-KIND is random, whole-day, tight, crowded, held or damaged; SEED is a number of 32 bits.";
+       reference cases STREAM-in | STREAM-out
+KIND is random, whole-day, tight, crowded, held or damaged; SEED is a number of 32 bits.
+STREAM is sheet, placing, plan or days.";
 
 fn main() -> ExitCode {
     let arguments: Vec<String> = std::env::args().skip(1).collect();
@@ -32,8 +34,24 @@ fn answer(words: &[&str]) -> Option<io::Result<Vec<u8>>> {
     match *words {
         ["plan"] => Some(read_input().map(|bytes| listing::program(&bytes))),
         ["sheet", kind, seed] => generated(kind, seed.parse().ok()?).map(Ok),
-        ["cases", "sheet-in"] => Some(Ok(cases::stream(&cases::sheet::cases()))),
-        ["cases", "sheet-out"] => Some(Ok(cases::sheet::output(&cases::sheet::cases()))),
+        ["cases", file] => case_file(file).map(Ok),
+        _ => None,
+    }
+}
+
+/// A case file: the input or the expected output of a stream of cases.
+fn case_file(file: &str) -> Option<Vec<u8>> {
+    let (name, side) = file.split_once('-')?;
+    let (cases, output): (Vec<Case>, fn(&[Case]) -> Vec<u8>) = match name {
+        "sheet" => (cases::sheet::cases(), cases::sheet::output),
+        "placing" => (cases::placing::cases(), cases::placing::output),
+        "plan" => (cases::plan::cases(), cases::plan::output),
+        "days" => (cases::days::cases(), cases::days::output),
+        _ => return None,
+    };
+    match side {
+        "in" => Some(cases::stream(&cases)),
+        "out" => Some(output(&cases)),
         _ => None,
     }
 }

@@ -215,7 +215,7 @@ pub fn shown_set(sheet: &Sheet) -> Option<SlotSet> {
 }
 
 /// The call for the shortfall of the marked slots: number, line and shortfall.
-pub fn shortfall(bytes: &[u8], marks: &[u32]) -> (u32, u32, i32) {
+pub fn shortfall(bytes: &[u8], marks: &[u8]) -> (u32, u32, i32) {
     let sheet = match read(bytes) {
         Ok(sheet) => sheet,
         Err(Refusal { number, line }) => return (number, line, 0),

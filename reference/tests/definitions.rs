@@ -2,12 +2,12 @@
 //! slots is enumerated, and nothing is taken from the flow.
 
 use reference::draws::Draws;
-use reference::generate::{any_sheet, random_sheet, Limits};
+use reference::generate::{any_sheet, random_sheet, Sizes};
 use reference::method::{self, State};
 use reference::placing::{bounds, shortfall, shown_set, Placing, Question};
 use reference::sheet::Sheet;
 
-const SMALL: Limits = Limits {
+const SMALL: Sizes = Sizes {
     slots: 4,
     blowers: 3,
     wake: 5,
@@ -364,7 +364,7 @@ fn shortfalls_of_small_days() {
         let low: Vec<u32> = high.iter().map(|_| draws.below(3)).collect();
         let question = Question::under(&sheet, &low, &high);
         for set in all_sets(sheet.slots) {
-            let marks: Vec<u32> = set.iter().map(|&q| u32::from(q)).collect();
+            let marks: Vec<u8> = set.iter().map(|&q| u8::from(q)).collect();
             let (number, line, value) = shortfall(&sheet.text(), &marks);
             assert_eq!((number, line), (0, 0));
             assert_eq!(i64::from(value), shortfall_of(&sheet, &set, &high));

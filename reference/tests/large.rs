@@ -66,7 +66,7 @@ fn held_sheets_show_a_shortfall_that_no_slot_less_has() {
     for _ in 0..60 {
         let sheet = held_sheet(&mut draws, FULL);
         let shown = method::plan(&sheet).expect_err("held");
-        let marks: Vec<u32> = shown.iter().map(|&q| u32::from(q)).collect();
+        let marks: Vec<u8> = shown.iter().map(|&q| u8::from(q)).collect();
         let (_, _, greatest) = shortfall(&sheet.text(), &marks);
         assert!(greatest > 0);
         for t in 0..marks.len() {

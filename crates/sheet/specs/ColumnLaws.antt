@@ -12,7 +12,7 @@ use Rattle.sheet.specs.declared.Field.{Field}
 use Rattle.sheet.specs.declared.Field.the-variants.{Value, Faulty}
 use Rattle.sheet.specs.Limits.{blank}
 use Rattle.sheet.specs.Field.{isDigit, digits, zeroAlone, decimal, parse, digit, leading, columns}
-use Rattle.sheet.specs.CaseLaws.{and-true-parts}
+use Rattle.common.specs.Tests.{and-true}
 
 -- One digit -------------------------------------------------------------------
 
@@ -23,7 +23,7 @@ isDigit-digit d h = ap₂ _&&_ (le-leb 48 (48 + d) (omega arith)) (le-leb (48 + 
 pub digit-isDigit : (b : ℕ) → isDigit b ≡ true → (48 ≤ b) × (b ≤ 57)
 unfolding isDigit
 digit-isDigit b e =
-    let h = and-true-parts (leb 48 b) (leb b 57) e in
+    let h = and-true (leb 48 b) (leb b 57) e in
     (leb-true 48 b (h .0), leb-true b 57 (h .1))
 
 -- a faulty field holds no number
@@ -91,7 +91,7 @@ pub blanks-faulty : (bs : List ℕ) → blanks bs ≡ true → parse bs ≡ Faul
 unfolding parse blanks
 blanks-faulty [] e = refl
 blanks-faulty (b ∷ bs) e =
-    let h = and-true-parts (eqb b blank) (blanks bs) e in
+    let h = and-true (eqb b blank) (blanks bs) e in
     rw (h .0) (blanks-faulty bs (h .1))
 
 pub blanks-replicate : (n : ℕ) → blanks (replicate n blank) ≡ true
@@ -103,7 +103,7 @@ pub replicate-blanks : (bs : List ℕ) → blanks bs ≡ true → bs ≡ replica
 unfolding blanks
 replicate-blanks [] e = refl
 replicate-blanks (b ∷ bs) e =
-    let h = and-true-parts (eqb b blank) (blanks bs) e in
+    let h = and-true (eqb b blank) (blanks bs) e in
     ap₂ (λ (x : ℕ) (xs : List ℕ). x ∷ xs) (eqb-true b blank (h .0)) (replicate-blanks bs (h .1))
 
 pub leading-zero : (n : ℕ) → leading n 0 ≡ replicate n blank

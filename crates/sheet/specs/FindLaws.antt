@@ -9,7 +9,7 @@ use borrow.Author.Tests.{eqb-true, eqb-false, ne-eqb}
 use Rattle.common.specs.Lists.{range}
 use Rattle.sheet.specs.Sheet.{lineAt, valueAt, jobAt}
 use Rattle.sheet.specs.Calls.{lineOf}
-use Rattle.sheet.specs.CaseLaws.{from-first}
+use Rattle.sheet.specs.FromFirst.{from-first}
 use Rattle.sheet.specs.RangeLaws.{JobsInRange}
 
 -- the tank on line i

@@ -6,7 +6,7 @@ use Prim.Native.Nat.{ℕ, zero, suc, _+_, _≤_, _<_}
 use native.Mathlib.Omega.{arith}
 use Rattle.sheet.specs.Sheet.{lineAt, faultyLine}
 use Rattle.sheet.specs.Checks.{firstFaulty}
-use Rattle.sheet.specs.CaseLaws.{from-first}
+use Rattle.sheet.specs.FromFirst.{from-first}
 
 -- no line from line i up to line j is faulty
 abbrev pub NoneFaulty : List ℕ → ℕ → ℕ → Type 0

@@ -7,7 +7,7 @@ pub mod Calls
 -- The theorems a reader looks for
 pub mod Theorems
 -- Laws of the definitions
-pub mod CaseLaws
+pub mod FromFirst
 pub mod RangeLaws
 pub mod ChunkLaws
 pub mod ColumnLaws

@@ -12,7 +12,8 @@ use Rattle.sheet.specs.declared.Field.the-variants.{Value, Faulty}
 use Rattle.sheet.specs.Limits.{width, fields, lineBytes, newline}
 use Rattle.sheet.specs.Field.{parse, numberOf, isFaulty, writeField}
 use Rattle.sheet.specs.Sheet.{fieldAt, valueAt, faultyFrom, faultyLine, writeLine}
-use Rattle.sheet.specs.CaseLaws.{or-false-parts, from-first}
+use Rattle.common.specs.Tests.{or-false}
+use Rattle.sheet.specs.FromFirst.{from-first}
 use Rattle.sheet.specs.ChunkLaws.{chunk-zero, chunk-suc, getD-append-past, length-chunk, drop-chunk}
 use Rattle.sheet.specs.FieldLaws.{parse-writeField, writeField-parse, length-writeField, Below, below-append, below-one, below-writeField}
 
@@ -71,7 +72,7 @@ pub formed-faultyFrom : (l : List ℕ) (f n : ℕ) → faultyFrom l f n ≡ fals
 unfolding faultyFrom
 formed-faultyFrom l f zero e = record { field = λ i p q. absurd (omega arith); closing = eqb-true _ newline (not-false _ e) }
 formed-faultyFrom l f (suc n) e =
-    let h = or-false-parts (isFaulty (parse (fieldAt l f))) (faultyFrom l (suc f) n) e in
+    let h = or-false (isFaulty (parse (fieldAt l f))) (faultyFrom l (suc f) n) e in
     let r = formed-faultyFrom l (suc f) n (h .1) in
     record { field = λ i p q. from-first (λ k. isFaulty (parse (fieldAt l k)) ≡ false) f i p (h .0) (λ s. r .field i s (omega arith)); closing = r .closing }
 

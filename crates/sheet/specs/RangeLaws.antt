@@ -10,7 +10,7 @@ use borrow.Author.Tests.{ltb-false, leb-true, leb-false, eqb-false, le-ltb, le-l
 use Rattle.sheet.specs.Limits.{maxSlots, maxBlowers, maxWake, maxRations, maxTank}
 use Rattle.sheet.specs.Sheet.{Job, Sheet}
 use Rattle.sheet.specs.Checks.{fault, outside, headFaults, tankFault, windowFault, volumeFault, jobFaults, jobsFaults, valueFaults}
-use Rattle.sheet.specs.CaseLaws.{and-true-parts, or-false-parts}
+use Rattle.common.specs.Tests.{and-true, or-false}
 use Rattle.sheet.specs.FaultLaws.{false-fault, append-nil-nil, append-nil-parts}
 use Rattle.sheet.specs.SheetLaws.{FitsJobs, Fits}
 
@@ -21,7 +21,7 @@ pub record InRange (a b x : ℕ) : Type 0 where
 pub inRange-outside : (a b x : ℕ) → outside a b x ≡ false → InRange a b x
 unfolding outside
 inRange-outside a b x e =
-    let h = or-false-parts (ltb x a) (ltb b x) e in
+    let h = or-false (ltb x a) (ltb b x) e in
     record { ge = ltb-false x a (h .0); le = ltb-false b x (h .1) }
 
 pub outside-inRange : (a b x : ℕ) → InRange a b x → outside a b x ≡ false
@@ -43,7 +43,7 @@ inRange-headFaults s n agrees e =
     let h₃ = append-nil-parts (fault 3 1 (outside 1 maxSlots (s .slots))) _ e in
     let h₄ = append-nil-parts (fault 4 1 (outside 1 maxBlowers (s .blowers))) _ (h₃ .1) in
     let h₅ = append-nil-parts (fault 5 1 (ltb maxWake (s .wake))) _ (h₄ .1) in
-    let h₆ = or-false-parts (ltb maxRations n) (not agrees) (false-fault 6 1 _ (h₅ .1)) in
+    let h₆ = or-false (ltb maxRations n) (not agrees) (false-fault 6 1 _ (h₅ .1)) in
     record {
       slots = inRange-outside 1 maxSlots (s .slots) (false-fault 3 1 _ (h₃ .0));
       blowers = inRange-outside 1 maxBlowers (s .blowers) (false-fault 4 1 _ (h₄ .0));
@@ -78,10 +78,10 @@ unfolding jobFaults tankFault windowFault volumeFault
 inRange-jobFaults slots line before j e =
     let h₇ = append-nil-parts (fault 7 line (outside 1 maxTank (j .tank) || leb (j .tank) before)) _ e in
     let h₈ = append-nil-parts (fault 8 line (not (leb 1 (j .release) && (leb (j .release) (j .deadline) && leb (j .deadline) slots)))) _ (h₇ .1) in
-    let t = or-false-parts (outside 1 maxTank (j .tank)) (leb (j .tank) before) (false-fault 7 line _ (h₇ .0)) in
-    let w = and-true-parts (leb 1 (j .release)) _ (not-false _ (false-fault 8 line _ (h₈ .0))) in
-    let x = and-true-parts (leb (j .release) (j .deadline)) (leb (j .deadline) slots) (w .1) in
-    let v = or-false-parts (eqb (j .volume) 0) (ltb (suc (j .deadline) - j .release) (j .volume)) (false-fault 9 line _ (h₈ .1)) in
+    let t = or-false (outside 1 maxTank (j .tank)) (leb (j .tank) before) (false-fault 7 line _ (h₇ .0)) in
+    let w = and-true (leb 1 (j .release)) _ (not-false _ (false-fault 8 line _ (h₈ .0))) in
+    let x = and-true (leb (j .release) (j .deadline)) (leb (j .deadline) slots) (w .1) in
+    let v = or-false (eqb (j .volume) 0) (ltb (suc (j .deadline) - j .release) (j .volume)) (false-fault 9 line _ (h₈ .1)) in
     let z : j .volume ≡ 0 → ⊥ = eqb-false (j .volume) 0 (v .0) in
     record {
       tank = inRange-outside 1 maxTank (j .tank) (t .0);

@@ -10,7 +10,7 @@ use borrow.Author.Tests.{eqb-true, eq-eqb, ltb-false, not-false}
 use Rattle.sheet.specs.Limits.{lineBytes, maxBytes}
 use Rattle.sheet.specs.Sheet.{Sheet, lineCount, lineAt, valueAt, sheetOf, writeSheet}
 use Rattle.sheet.specs.Checks.{outside, lengthFaults, firstFaulty, formFaults, valueFaults, faults}
-use Rattle.sheet.specs.CaseLaws.{or-false-parts}
+use Rattle.common.specs.Tests.{or-false}
 use Rattle.sheet.specs.SheetLaws.{length-jobs-sheetOf, length-writeSheet, lineCount-writeSheet, sheetOf-writeSheet, rations-writeSheet, faultyLine-writeSheet, writeSheet-sheetOf}
 use Rattle.sheet.specs.FirstFaultyLaws.{NoneFaulty, firstFaulty-none, none-firstFaulty}
 use Rattle.sheet.specs.FaultLaws.{false-fault, append-nil-nil, append-nil-parts}
@@ -31,7 +31,7 @@ lengthFaults-whole b h e = rw (outside-inRange lineBytes maxBytes (length b) h, 
 pub whole-lengthFaults : (b : List ℕ) → lengthFaults b ≡ [] → InRange lineBytes maxBytes (length b) × (length b ≡ lineBytes * lineCount b)
 unfolding lengthFaults lineCount
 whole-lengthFaults b e =
-    let h = or-false-parts (outside lineBytes maxBytes (length b)) (not (eqb (length b % lineBytes) 0)) (false-fault 1 0 _ e) in
+    let h = or-false (outside lineBytes maxBytes (length b)) (not (eqb (length b % lineBytes) 0)) (false-fault 1 0 _ e) in
     let z : length b % lineBytes ≡ 0 = eqb-true (length b % lineBytes) 0 (not-false _ (h .1)) in
     (inRange-outside lineBytes maxBytes (length b) (h .0), omega arith)
 

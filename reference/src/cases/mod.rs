@@ -1,7 +1,11 @@
 //! Case files for the gate programs: a stream of cases, and the output expected of
 //! a program that answers them one after another.
 
+pub mod days;
+pub mod placing;
+pub mod plan;
 pub mod sheet;
+mod sheets;
 
 /// Bytes of a case's header.
 const HEADER: usize = 16;
@@ -21,6 +25,16 @@ impl Case {
             argument,
             payload: payload.into(),
         }
+    }
+
+    /// A case whose payload has two parts; the argument is the first one's length.
+    pub fn in_parts(operation: u8, first: &[u8], second: &[u8]) -> Self {
+        Case::new(operation, first.len() as u32, [first, second].concat())
+    }
+
+    /// The two parts of the payload.
+    pub fn parts(&self) -> (&[u8], &[u8]) {
+        self.payload.split_at(self.argument as usize)
     }
 }
 
@@ -61,6 +75,20 @@ pub fn parse(mut bytes: &[u8]) -> Vec<Case> {
 fn decimal(column: &[u8]) -> u32 {
     let text = std::str::from_utf8(column).expect("a column is ASCII");
     text.trim_start().parse().expect("a column holds a number")
+}
+
+/// Numbers as text, one a line.
+fn text_of(numbers: &[u32]) -> Vec<u8> {
+    let lines: String = numbers.iter().map(|v| format!("{v}\n")).collect();
+    lines.into_bytes()
+}
+
+/// The numbers of such a text.
+fn numbers_of(text: &[u8]) -> Vec<u32> {
+    let text = std::str::from_utf8(text).expect("the numbers are ASCII");
+    text.lines()
+        .map(|line| line.parse().expect("each line holds a number of 32 bits"))
+        .collect()
 }
 
 /// The bytes a lent buffer holds before the call: (i × 7 + 3) modulo 256 at index i.

@@ -1,9 +1,10 @@
 //! Look-ups, writes into buffers of several lengths, and generated sheets.
 
-use super::days::{first_day, full_day, held_day, value_sheets, with};
-use super::{find_case, read_case, text, write_case, Case};
+use super::values::value_sheets;
+use super::{find_case, read_case, write_case, Case};
+use crate::cases::sheets::{first_day, full_day, held_day, text, with};
 use crate::draws::Draws;
-use crate::generate::{any_sheet, damage, damaged_sheet, tight_sheet, Limits, FULL};
+use crate::generate::{any_sheet, damage, damaged_sheet, tight_sheet, FULL, SMALL};
 use crate::sheet::LINE;
 
 pub fn find_cases() -> Vec<Case> {
@@ -126,14 +127,8 @@ pub fn write_cases() -> Vec<Case> {
 pub fn generated_cases() -> Vec<Case> {
     let mut draws = Draws::new(1);
     let mut cases = Vec::new();
-    let small = Limits {
-        slots: 12,
-        blowers: 3,
-        wake: 20,
-        rations: 6,
-    };
     for round in 0..300 {
-        let limits = if round % 3 == 0 { FULL } else { small };
+        let limits = if round % 3 == 0 { FULL } else { SMALL };
         if round % 2 == 0 {
             let sheet = any_sheet(&mut draws, limits);
             cases.push(read_case(sheet.text()));
@@ -142,7 +137,7 @@ pub fn generated_cases() -> Vec<Case> {
         }
     }
     for round in 0..60 {
-        let limits = if round % 6 == 0 { FULL } else { small };
+        let limits = if round % 6 == 0 { FULL } else { SMALL };
         let sheet = tight_sheet(&mut draws, limits);
         let mut bytes = sheet.text();
         if round % 3 == 0 {
@@ -153,7 +148,7 @@ pub fn generated_cases() -> Vec<Case> {
         cases.push(find_case(tank + draws.below(2), bytes));
     }
     for round in 0..120 {
-        let limits = if round % 6 == 0 { FULL } else { small };
+        let limits = if round % 6 == 0 { FULL } else { SMALL };
         let sheet = any_sheet(&mut draws, limits);
         let n = sheet.rations.len() as u32;
         let mut numbers = vec![sheet.slots, sheet.blowers, sheet.wake, n];

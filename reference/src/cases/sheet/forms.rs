@@ -1,7 +1,7 @@
 //! Sheets at fault by checks 1 and 2: lengths, bytes, fields and closing bytes.
 
-use super::days::{first_day, full_day, with};
-use super::{find_case, read_case, text, Case, Lines};
+use super::{find_case, read_case, Case};
+use crate::cases::sheets::{first_day, full_day, text, with, Lines};
 use crate::sheet::{line_text, FIELD, LINE, LONGEST_SHEET};
 
 pub fn length_cases() -> Vec<Case> {

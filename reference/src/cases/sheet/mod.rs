@@ -3,15 +3,16 @@
 //! values listed in the payload into a lent buffer as long as the argument says.
 
 mod calls;
-mod days;
 mod forms;
+mod values;
 
-use super::{digest, lent_buffer, Case};
-use crate::sheet::{find, line_text, read, write};
+use super::sheets::text;
+use super::{digest, lent_buffer, numbers_of, text_of, Case};
+use crate::sheet::{find, read, write};
 
 /// All cases of this gate program.
 pub fn cases() -> Vec<Case> {
-    let mut cases: Vec<Case> = days::value_sheets()
+    let mut cases: Vec<Case> = values::value_sheets()
         .iter()
         .map(|lines| read_case(text(lines)))
         .collect();
@@ -75,11 +76,7 @@ fn answer_find(bytes: &[u8], tank: u32) -> Vec<u8> {
 
 /// `W number line length`, then `D` and the digest of the whole lent buffer.
 fn answer_write(numbers: &[u8], buffer_length: usize) -> Vec<u8> {
-    let text = std::str::from_utf8(numbers).expect("the numbers are ASCII");
-    let values: Vec<u32> = text
-        .lines()
-        .map(|line| line.parse().expect("each line holds a number of 32 bits"))
-        .collect();
+    let values = numbers_of(numbers);
     let mut buffer = lent_buffer(buffer_length);
     let (number, line, length) = write(
         values[0],
@@ -92,13 +89,6 @@ fn answer_write(numbers: &[u8], buffer_length: usize) -> Vec<u8> {
     format!("W {number} {line} {length}\nD {}\n", digest(&buffer)).into_bytes()
 }
 
-/// A sheet as its lines of four numbers, the head line first.
-type Lines = Vec<[u32; 4]>;
-
-fn text(lines: &[[u32; 4]]) -> Vec<u8> {
-    lines.iter().flat_map(|&line| line_text(line)).collect()
-}
-
 fn read_case(payload: impl Into<Vec<u8>>) -> Case {
     Case::new(b'R', 0, payload)
 }
@@ -108,14 +98,13 @@ fn find_case(tank: u32, payload: impl Into<Vec<u8>>) -> Case {
 }
 
 fn write_case(buffer_length: usize, numbers: &[u32]) -> Case {
-    let payload: String = numbers.iter().map(|v| format!("{v}\n")).collect();
-    Case::new(b'W', buffer_length as u32, payload)
+    Case::new(b'W', buffer_length as u32, text_of(numbers))
 }
 
 #[cfg(test)]
 mod tests {
-    use super::days::{first_day, with};
     use super::*;
+    use crate::cases::sheets::{first_day, with, Lines};
     use crate::cases::{parse, stream};
     use crate::sheet::LINE;
 

@@ -1,35 +1,6 @@
 //! Sheets in good form whose values are accepted, or at fault by checks 3 to 9.
 
-use super::Lines;
-
-/// The first sheet of document 01.
-pub fn first_day() -> Lines {
-    vec![[4, 2, 2, 3], [1, 1, 2, 2], [2, 1, 4, 2], [3, 2, 3, 1]]
-}
-
-/// A sheet of document 01 that is well-formed and has no sound placing.
-pub fn held_day() -> Lines {
-    vec![[3, 1, 1, 2], [1, 1, 2, 2], [2, 2, 3, 2]]
-}
-
-/// 96 slots, 8 blowers, wake cost 200, 64 rations up to tank 999.
-pub fn full_day() -> Lines {
-    let mut lines = vec![[96, 8, 200, 64]];
-    for i in 1..=64 {
-        let tank = if i == 64 { 999 } else { 15 * i + 1 };
-        let first = 1 + (i * 37) % 90;
-        let last = (first + (i * 11) % 60).min(96);
-        let volume = 1 + (i * 5) % (last - first + 1);
-        lines.push([tank, first, last, volume]);
-    }
-    lines
-}
-
-/// A day with some line's field set to another value.
-pub fn with(mut lines: Lines, line: usize, field: usize, value: u32) -> Lines {
-    lines[line][field] = value;
-    lines
-}
+use crate::cases::sheets::{first_day, full_day, held_day, with, Lines};
 
 /// The sheets whose values are good, or at fault by checks 3 to 9 alone.
 pub fn value_sheets() -> Vec<Lines> {

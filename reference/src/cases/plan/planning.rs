@@ -1,0 +1,94 @@
+//! Planning with each combination of buffers, one byte too short, exact and longer.
+
+use super::{plan_case, Case};
+use crate::cases::sheets::{
+    beyond_days, document_days, full_day, limit_days, refused_by, settled_days, text,
+    too_long_sheet,
+};
+use crate::draws::Draws;
+use crate::generate::{damaged_sheet, full_sheet, held_sheet, tight_sheet, MIDDLE, SMALL};
+use crate::listing::{PLACING_BUFFER, PLAN_BUFFER};
+
+pub fn cases() -> Vec<Case> {
+    let mut cases = Vec::new();
+    for lines in document_days() {
+        cases.extend(all_buffers(&text(&lines)));
+    }
+    cases.extend(all_buffers(&text(&full_day())));
+    for lines in beyond_days() {
+        cases.extend(all_buffers(&text(&lines)));
+    }
+    for number in 1..=9 {
+        for (i, sheet) in refused_by(number).iter().enumerate() {
+            match i {
+                0 => cases.extend(all_buffers(sheet)),
+                _ => cases.extend(exact_buffers(sheet)),
+            }
+        }
+    }
+    cases.push(plan_case(b'P', &[PLAN_BUFFER], &too_long_sheet()));
+    for lines in [limit_days(), settled_days()].concat() {
+        cases.extend(exact_buffers(&text(&lines)));
+    }
+    cases.extend(generated_cases());
+    cases
+}
+
+fn generated_cases() -> Vec<Case> {
+    let mut draws = Draws::new(31);
+    let mut cases = Vec::new();
+    for _ in 0..4 {
+        cases.extend(all_buffers(&tight_sheet(&mut draws, SMALL).text()));
+        cases.extend(all_buffers(&held_sheet(&mut draws, SMALL).text()));
+    }
+    for _ in 0..12 {
+        cases.extend(exact_buffers(&tight_sheet(&mut draws, MIDDLE).text()));
+        cases.extend(exact_buffers(&held_sheet(&mut draws, MIDDLE).text()));
+        cases.extend(exact_buffers(&damaged_sheet(&mut draws, MIDDLE)));
+        cases.extend(exact_buffers(&full_sheet(&mut draws).text()));
+    }
+    cases
+}
+
+/// Each operation with buffers as long as they must be.
+fn exact_buffers(sheet: &[u8]) -> Vec<Case> {
+    vec![
+        plan_case(b'P', &[PLAN_BUFFER], sheet),
+        plan_case(b'G', &[PLACING_BUFFER], sheet),
+        plan_case(b'B', &[PLAN_BUFFER, PLACING_BUFFER], sheet),
+        plan_case(b'N', &[], sheet),
+    ]
+}
+
+/// Each operation with buffers of no byte, one byte too short, exact and longer,
+/// and with each buffer as long as the other one must be.
+fn all_buffers(sheet: &[u8]) -> Vec<Case> {
+    let listings = [
+        0,
+        PLACING_BUFFER,
+        PLAN_BUFFER - 1,
+        PLAN_BUFFER,
+        PLAN_BUFFER + 1,
+        LONGER,
+    ];
+    let grids = [
+        0,
+        PLACING_BUFFER - 1,
+        PLACING_BUFFER,
+        PLACING_BUFFER + 1,
+        PLAN_BUFFER,
+    ];
+    let mut cases = vec![plan_case(b'N', &[], sheet)];
+    cases.extend(listings.map(|length| plan_case(b'P', &[length], sheet)));
+    cases.extend(grids.map(|length| plan_case(b'G', &[length], sheet)));
+    for listing in [PLAN_BUFFER - 1, PLAN_BUFFER, LONGER] {
+        for grid in [PLACING_BUFFER - 1, PLACING_BUFFER, PLACING_BUFFER + 100] {
+            cases.push(plan_case(b'B', &[listing, grid], sheet));
+        }
+    }
+    cases.push(plan_case(b'B', &[PLACING_BUFFER, PLAN_BUFFER], sheet));
+    cases
+}
+
+/// A plan buffer longer than it must be.
+const LONGER: usize = PLAN_BUFFER + 500;
