@@ -180,6 +180,7 @@ pub fn crowded_sheet(draws: &mut Draws, limits: Sizes) -> Sheet {
     sheet
 }
 
+/// Makes rations harder to place.
 fn crowd(draws: &mut Draws, sheet: &mut Sheet) {
     if draws.one_in(3) && sheet.blowers > 1 {
         sheet.blowers -= 1;
@@ -216,23 +217,31 @@ pub fn any_sheet(draws: &mut Draws, limits: Sizes) -> Sheet {
     }
 }
 
-/// A sheet of the most slots, blowers and rations: tight, crowded, random, or with
-/// 64 whole-day windows.
+/// A sheet of the most slots and blowers and of the most rations or nearly so:
+/// tight, crowded or random, or with whole-day windows.
 pub fn full_sheet(draws: &mut Draws) -> Sheet {
     let wake = some_wake(draws, FULL.wake);
     let sizes = Sizes { wake, ..FULL };
-    match draws.below(4) {
-        0 => tight_sheet_of(draws, sizes),
-        1 => {
-            let mut sheet = tight_sheet_of(draws, sizes);
-            crowd(draws, &mut sheet);
-            sheet
-        }
-        2 => random_sheet_of(draws, sizes),
-        _ => {
-            let mut sheet = random_sheet_of(draws, sizes);
-            widen(&mut sheet);
-            sheet
+    let kind = draws.below(5);
+    let mut sheet = match kind {
+        0..=2 => tight_sheet_of(draws, sizes),
+        _ => random_sheet_of(draws, sizes),
+    };
+    match kind {
+        1 => crowd(draws, &mut sheet),
+        2 | 3 => widen(&mut sheet),
+        _ => {}
+    }
+    sheet
+}
+
+/// Such a sheet without a sound placing.
+pub fn held_full_sheet(draws: &mut Draws) -> Sheet {
+    loop {
+        let mut sheet = full_sheet(draws);
+        crowd(draws, &mut sheet);
+        if shown_set(&sheet).is_some() {
+            return sheet;
         }
     }
 }

@@ -39,10 +39,13 @@ fn answer(words: &[&str]) -> Option<io::Result<Vec<u8>>> {
     }
 }
 
+/// Makes the output expected for cases.
+type Answering = fn(&[Case]) -> Vec<u8>;
+
 /// A case file: the input or the expected output of a stream of cases.
 fn case_file(file: &str) -> Option<Vec<u8>> {
     let (name, side) = file.split_once('-')?;
-    let (cases, output): (Vec<Case>, fn(&[Case]) -> Vec<u8>) = match name {
+    let (cases, output): (Vec<Case>, Answering) = match name {
         "sheet" => (cases::sheet::cases(), cases::sheet::output),
         "placing" => (cases::placing::cases(), cases::placing::output),
         "plan" => (cases::plan::cases(), cases::plan::output),

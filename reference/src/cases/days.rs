@@ -4,7 +4,7 @@
 use super::{digest, lent_buffer, Case};
 use crate::draws::Draws;
 use crate::generate::{
-    any_sheet, damaged_sheet, full_sheet, tight_sheet, Sizes, FULL, MIDDLE, SMALL,
+    any_sheet, damaged_sheet, full_sheet, held_full_sheet, tight_sheet, Sizes, FULL, MIDDLE, SMALL,
 };
 use crate::listing::{plan, PLACING_BUFFER, PLAN_BUFFER};
 
@@ -37,8 +37,10 @@ const SHARES: [Share; 3] = [
     },
 ];
 
-/// How many sheets have the most slots, blowers and rations.
-const FULL_SHEETS: u32 = 80;
+/// How many sheets have the most slots and rations, and how many more of them are
+/// held.
+const FULL_SHEETS: u32 = 60;
+const HELD_FULL_SHEETS: u32 = 40;
 
 /// All cases of this gate program.
 pub fn cases() -> Vec<Case> {
@@ -57,6 +59,9 @@ pub fn cases() -> Vec<Case> {
     }
     for _ in 0..FULL_SHEETS {
         sheets.push(full_sheet(&mut draws).text());
+    }
+    for _ in 0..HELD_FULL_SHEETS {
+        sheets.push(held_full_sheet(&mut draws).text());
     }
     let case = |sheet| Case::new(b'D', 0, sheet);
     sheets.into_iter().map(case).collect()
@@ -80,7 +85,7 @@ mod tests {
     use super::*;
     use crate::cases::{parse, stream};
     use crate::placing::shown_set;
-    use crate::sheet::read;
+    use crate::sheet::{read, Ration, Sheet};
 
     #[test]
     fn the_stream_holds_the_cases() {
@@ -93,9 +98,9 @@ mod tests {
     #[test]
     fn planned_and_held_sheets_of_all_sizes_are_there() {
         let sheets: Vec<_> = cases().iter().flat_map(|c| read(&c.payload)).collect();
-        let count = |held, rations: u32| {
-            let counts = |s: &&_| shown_set(s).is_some() == held;
-            let large = |s: &&crate::sheet::Sheet| s.rations.len() as u32 >= rations;
+        let count = |held, rations: usize| {
+            let large = |s: &&Sheet| s.rations.len() >= rations;
+            let counts = |s: &&Sheet| shown_set(s).is_some() == held;
             sheets.iter().filter(large).filter(counts).count()
         };
         assert!(sheets.len() >= 2_000);
@@ -104,8 +109,8 @@ mod tests {
             assert!(count(held, 32) > 50);
             assert!(count(held, 64) > 20);
         }
-        let whole_day = |s: &&crate::sheet::Sheet| {
-            let whole = |r: &crate::sheet::Ration| r.first == 1 && r.last == s.slots;
+        let whole_day = |s: &&Sheet| {
+            let whole = |r: &Ration| r.first == 1 && r.last == s.slots;
             s.rations.len() == 64 && s.rations.iter().all(whole)
         };
         assert!(sheets.iter().filter(whole_day).count() > 12);

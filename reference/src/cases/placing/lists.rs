@@ -3,7 +3,7 @@
 
 use super::{bounds_case, shortfall_case, Case};
 use crate::cases::sheets::{
-    beyond_days, day_of, document_days, first_day, full_day, held_day, idle_first_day, limit_days,
+    beyond_days, day_of, document_days, first_day, held_day, idle_first_day, limit_days,
     refused_by, settled_days, text, too_long_sheet, Lines,
 };
 
@@ -20,7 +20,7 @@ pub fn shortfall_cases() -> Vec<Case> {
     for lines in settled_days() {
         let every_other: Vec<u8> = (0..96).map(|t| u8::from(t % 2 == 0)).collect();
         cases.push(shortfall_case(&text(&lines), &every_other));
-        cases.push(shortfall_case(&text(&lines), &vec![0; 96]));
+        cases.push(shortfall_case(&text(&lines), &[0; 96]));
     }
     for sheet in refused_sheets() {
         cases.push(shortfall_case(&sheet, &[0, 0, 0, 1]));
@@ -61,10 +61,15 @@ pub fn bounds_cases() -> Vec<Case> {
     for (lows, highs) in named {
         cases.push(bounds_case(&text(&idle_first_day()), &lows, &highs));
     }
-    // All bounds up to one above the blowers on days of three slots and one blower.
-    for lines in [idle_first_day(), held_day(), day_of(3, 1, 0, &[[1, 2, 2]])] {
-        for lows in all_lists(3, &[0, 1, 2]) {
-            for highs in all_lists(3, &[0, 1, 2]) {
+    // All bounds up to one above the blowers, or up to the blowers, on days of three
+    // slots and one blower.
+    for (lines, values) in [
+        (idle_first_day(), &[0, 1, 2][..]),
+        (held_day(), &[0, 1]),
+        (day_of(3, 1, 0, &[[1, 3, 2]]), &[0, 1]),
+    ] {
+        for lows in all_lists(3, values) {
+            for highs in all_lists(3, values) {
                 cases.push(bounds_case(&text(&lines), &lows, &highs));
             }
         }
@@ -75,9 +80,15 @@ pub fn bounds_cases() -> Vec<Case> {
         cases.push(bounds_case(&text(&first_day()), &[0; 4], &bound));
         cases.push(bounds_case(&text(&first_day()), &bound, &bound));
     }
-    for lines in [document_days(), limit_days(), settled_days()].concat() {
+    for lines in document_days() {
         let (day, m, sheet) = (slots(&lines), lines[0][1], text(&lines));
         for (low, high) in [(0, m), (m, m), (0, m + 1), (0, m - 1), (1, m)] {
+            cases.push(bounds_case(&sheet, &vec![low; day], &vec![high; day]));
+        }
+    }
+    for lines in [limit_days(), settled_days()].concat() {
+        let (day, m, sheet) = (slots(&lines), lines[0][1], text(&lines));
+        for (low, high) in [(0, m), (1, m)] {
             cases.push(bounds_case(&sheet, &vec![low; day], &vec![high; day]));
         }
     }
@@ -104,16 +115,18 @@ pub fn bounds_cases() -> Vec<Case> {
                 list[at] = value;
                 // A low is not cut, a high is.
                 cases.push(bounds_case(&sheet, &list, &vec![8; day]));
-                cases.push(bounds_case(&sheet, &list, &vec![value; day]));
+                cases.push(bounds_case(&sheet, &list, &list));
+                cases.push(bounds_case(&sheet, &vec![0; day], &list));
                 let highs: Vec<u32> = list.iter().map(|&v| v.max(1)).collect();
                 cases.push(bounds_case(&sheet, &vec![0; day], &highs));
-                cases.push(bounds_case(&sheet, &vec![0; day], &list));
             }
         }
-        for value in LARGE {
-            cases.push(bounds_case(&sheet, &vec![0; day], &vec![value; day]));
-            cases.push(bounds_case(&sheet, &vec![value; day], &vec![value; day]));
-        }
+        cases.push(bounds_case(&sheet, &vec![0; day], &vec![u32::MAX; day]));
+        cases.push(bounds_case(
+            &sheet,
+            &vec![u32::MAX; day],
+            &vec![u32::MAX; day],
+        ));
     }
     cases
 }
@@ -139,7 +152,7 @@ fn days_for_lists() -> Vec<Lines> {
         day_of(2, 2, 0, &[]),
         first_day(),
         held_day(),
-        full_day(),
+        day_of(96, 8, 0, &[[1, 96, 96], [96, 96, 1]]),
     ]
 }
 

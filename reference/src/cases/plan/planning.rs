@@ -6,7 +6,9 @@ use crate::cases::sheets::{
     too_long_sheet,
 };
 use crate::draws::Draws;
-use crate::generate::{damaged_sheet, full_sheet, held_sheet, tight_sheet, MIDDLE, SMALL};
+use crate::generate::{
+    damaged_sheet, full_sheet, held_full_sheet, held_sheet, tight_sheet, MIDDLE, SMALL,
+};
 use crate::listing::{PLACING_BUFFER, PLAN_BUFFER};
 
 pub fn cases() -> Vec<Case> {
@@ -45,7 +47,10 @@ fn generated_cases() -> Vec<Case> {
         cases.extend(exact_buffers(&tight_sheet(&mut draws, MIDDLE).text()));
         cases.extend(exact_buffers(&held_sheet(&mut draws, MIDDLE).text()));
         cases.extend(exact_buffers(&damaged_sheet(&mut draws, MIDDLE)));
+    }
+    for _ in 0..6 {
         cases.extend(exact_buffers(&full_sheet(&mut draws).text()));
+        cases.extend(exact_buffers(&held_full_sheet(&mut draws).text()));
     }
     cases
 }

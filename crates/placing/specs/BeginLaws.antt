@@ -1,0 +1,81 @@
+-- What the first placing and its relief say of the demands: the answers of `begin`. Assumes nothing.
+use mathlib.Core.Path.{_≡_, refl, sym, ap, _∙_}
+use mathlib.Core.Bool.{Bool, true, false}
+use mathlib.Core.List.{List}
+use Prim.Native.Nat.{ℕ, _+_, _≤_, _<_}
+use native.Mathlib.Omega.{arith}
+use lib.ListN.{length, replicate, length-replicate, getD-replicate}
+use Rattle.grid.specs.Grid.{at, load}
+use Rattle.grid.specs.Relief.{Relieved, Widths}
+use Rattle.grid.specs.First.{Started}
+use Rattle.grid.specs.Meaning.{Places, bitAt, seenAt}
+use Rattle.grid.specs.MeaningLaws.{count-load, places-placing, places-moved}
+use Rattle.grid.specs.HeldLaws.{words-closed}
+use Rattle.grid.specs.StartLaws.{relieved-state, relieved-critical, relieved-none, started-places}
+use Rattle.common.specs.Tests.{false-of-not-true}
+use Rattle.theory.specs.SumsOver.{sumOn, on-cong}
+use Rattle.theory.specs.Placing.{count}
+use Rattle.theory.specs.Critical.{Critical}
+use Rattle.placing.specs.Schedules.{Demand, volumeOf, feasible}
+use Rattle.placing.specs.Shortfall.{forced, criticalSet}
+use Rattle.placing.specs.FeasibleLaws.{feasible-sound}
+use Rattle.placing.specs.CriticalLaws.{critical-as}
+use Rattle.placing.specs.Tabulate.{tab}
+use Rattle.placing.specs.AsFunctions.{free, bound, sound-bounded}
+use Rattle.placing.specs.Certificates.{closed-forced}
+use Rattle.placing.specs.Represents.{Represents, DemandWords, HighWords, Begun}
+use Rattle.placing.specs.StepLaws.{state-bounds, represents-feasible}
+
+-- a set is critical for highs that agree within the day
+critical-highs : {n d : ℕ} {f : ℕ → ℕ → Bool} {v x y : ℕ → ℕ} {R : ℕ → Bool} → ((t : ℕ) → t < d → x t ≡ y t) → Critical n d f v x R → Critical n d f v y R
+critical-highs {n} {d} {f} {v} {x} {y} {R} e c =
+    record {
+      greatest = λ Q. omega (arith, c .greatest Q, same R, same Q);
+      least = λ Q q. c .least Q (omega (arith, same R, same Q));
+    }
+  where
+    same : (Q : ℕ → Bool) → sumOn d Q x ≡ sumOn d Q y
+    same Q = on-cong (λ t l. refl) e
+
+module _ {W N F R H F′ R′ C′ S′ : List ℕ} {r : Bool} (h : length H ≡ 96) (s : Started W N F R) (w : Relieved r F R H F′ R′ S′) (c : Widths F′ R′ C′) where
+  module _ (slots : ℕ) (ds : List Demand) (high : List ℕ) (d : DemandWords slots ds W N) (g : HighWords slots high H) where
+    places : Places (length ds) slots (free ds) (volumeOf ds) F R
+    places = started-places (d .given) s
+
+    yes : r ≡ true → Represents slots ds (replicate slots 0) high F′ R′ H C′
+    yes e =
+        record {
+          windows = d .windows;
+          lows = length-replicate slots 0;
+          highs = g .long;
+          state = state-bounds (relieved-state places w h e c) (λ u l. sym (getD-replicate slots u 0 0 l)) (g .same);
+        }
+
+    no : r ≡ false → feasible slots ds (replicate slots 0) high ≡ false
+    no e =
+        false-of-not-true (feasible slots ds (replicate slots 0) high) (λ f.
+        let q = sound-bounded (d .windows) (feasible-sound (d .windows) (length-replicate slots 0) (g .long) f .1) in
+        relieved-none places w e (q .0) (λ u l. omega (arith, q .1 u l, g .same u l)))
+
+    marked : r ≡ false → criticalSet slots ds high ≡ tab slots (seenAt S′)
+    marked e = critical-as (d .windows) high (g .long) (critical-highs (g .same) (relieved-critical places w e))
+
+    counted : r ≡ false → forced ds (criticalSet slots ds high) ≡ sumOn slots (seenAt S′) (load F′)
+    counted e =
+        let q = places-moved places (w .moved) in
+        ap (forced ds) (marked e)
+        ∙ closed-forced (d .windows) (places-placing q) (seenAt S′) (words-closed (q .day) S′ (w .held e .stuck .closed))
+        ∙ on-cong (λ t l. refl) (λ t l. count-load (q .day) t)
+
+    answer : (b : Bool) → r ≡ b → r ≡ feasible slots ds (replicate slots 0) high
+    answer true e = e ∙ sym (represents-feasible (yes e))
+    answer false e = e ∙ sym (no e)
+
+  pub begun : Begun r W N H F′ R′ C′ S′
+  begun =
+      record {
+        answer = λ slots ds high d g. answer slots ds high d g r refl;
+        yes = λ e slots ds high d g. yes slots ds high d g e;
+        marked = λ e slots ds high d g. marked slots ds high d g e;
+        counted = λ e slots ds high d g. counted slots ds high d g e;
+      }

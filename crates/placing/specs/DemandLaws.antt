@@ -1,0 +1,92 @@
+-- The demands of a sheet: their windows are of the day, and where the sheet is accepted they are few and their volumes fit. Assumes nothing.
+use mathlib.Core.Path.{_≡_, refl, sym, ap, _∙_}
+use mathlib.Core.Bool.{true}
+use mathlib.Core.List.{List, [], _∷_}
+use Prim.Native.Nat.{ℕ, zero, suc, _-_, _≤_, _<_}
+use native.Mathlib.Omega.{arith}
+use lib.ListN.{length, getD, length-map}
+use Rattle.common.specs.Lists.{count}
+use Rattle.sheet.specs.Limits.{maxSlots, maxBlowers, maxRations}
+use Rattle.sheet.specs.Sheet.{Job, Sheet, sheetOf}
+use Rattle.sheet.specs.Checks.{faults}
+use Rattle.sheet.specs.RangeLaws.{JobInRange, JobsInRange, ValuesInRange}
+use Rattle.sheet.specs.WellFormedLaws.{wellFormed-faults}
+use Rattle.placing.specs.Slots.{window}
+use Rattle.placing.specs.Schedules.{Demand, Windows, noDemand, windowOf, volumeOf}
+use Rattle.placing.specs.Calls.{demandOf, demandsOf}
+use Rattle.placing.specs.Tabulate.{getD-map-below}
+use Rattle.placing.specs.WindowLaws.{length-window, count-window}
+
+abbrev pub noJob : Job
+noJob = record { tank = 0; release = 0; deadline = 0; volume = 0 }
+
+pub length-demandsOf : (s : Sheet) → length (demandsOf s) ≡ length (s .jobs)
+unfolding demandsOf
+length-demandsOf s = length-map (s .jobs) (demandOf (s .slots))
+
+module _ (s : Sheet) (j : ℕ) (l : j < length (s .jobs)) where
+  pub demandsOf-at : getD (demandsOf s) j noDemand ≡ demandOf (s .slots) (getD (s .jobs) j noJob)
+  unfolding demandsOf
+  demandsOf-at = getD-map-below (demandOf (s .slots)) (s .jobs) j noDemand noJob l
+
+  pub windowOf-demandsOf : windowOf (demandsOf s) j ≡ window (s .slots) (getD (s .jobs) j noJob .release) (getD (s .jobs) j noJob .deadline)
+  unfolding demandOf
+  windowOf-demandsOf = ap (λ d. d .window) demandsOf-at
+
+  pub volumeOf-demandsOf : volumeOf (demandsOf s) j ≡ getD (s .jobs) j noJob .volume
+  unfolding demandOf
+  volumeOf-demandsOf = ap (λ d. d .volume) demandsOf-at
+
+-- each window says of each of the day's slots whether it is in it
+pub windows-demandsOf : (s : Sheet) → Windows (s .slots) (demandsOf s)
+windows-demandsOf s =
+    record {
+      all-day = λ j l.
+          ap length (windowOf-demandsOf s j (rw (length-demandsOf s) at l))
+          ∙ length-window (s .slots) (getD (s .jobs) j noJob .release) (getD (s .jobs) j noJob .deadline);
+    }
+
+-- rations in range, by place
+pub jobsInRange-at : (slots before : ℕ) (js : List Job) → JobsInRange slots before js → (j : ℕ) → j < length js
+    → (tank : ℕ) × JobInRange slots tank (getD js j noJob)
+jobsInRange-at slots before [] h j l = absurd (omega arith)
+jobsInRange-at slots before (x ∷ js) h zero l = (before, h .0)
+jobsInRange-at slots before (x ∷ js) h (suc j) l = jobsInRange-at slots (x .tank) js (h .1) j (omega arith)
+
+-- What the checks 3 to 9 leave of a day's slots, blowers and demands.
+pub record DayInRange (slots blowers : ℕ) (ds : List Demand) : Type 0 where
+  pub some : 1 ≤ slots
+  pub short : slots ≤ maxSlots
+  pub blown : blowers ≤ maxBlowers
+  pub few : length ds ≤ maxRations
+  pub windows : Windows slots ds
+  pub fits : (j : ℕ) → j < length ds → volumeOf ds j ≤ count (windowOf ds j)
+  pub small : (j : ℕ) → j < length ds → volumeOf ds j ≤ maxSlots
+
+pub demandsOf-inRange : (s : Sheet) → ValuesInRange s (length (s .jobs)) true → DayInRange (s .slots) (s .blowers) (demandsOf s)
+demandsOf-inRange s v =
+    record {
+      some = v .head .slots .ge;
+      short = v .head .slots .le;
+      blown = v .head .blowers .le;
+      few = omega (arith, length-demandsOf s, v .head .rations);
+      windows = windows-demandsOf s;
+      fits = λ j l.
+          let k = rw (length-demandsOf s) at l in
+          let r = jobsInRange-at (s .slots) 0 (s .jobs) (v .jobs) j k .1 in
+          omega (
+            arith,
+            volumeOf-demandsOf s j k,
+            ap count (windowOf-demandsOf s j k),
+            count-window (s .slots) (getD (s .jobs) j noJob .release) (getD (s .jobs) j noJob .deadline) (r .release) (r .deadline),
+            r .volume .le,
+          );
+      small = λ j l.
+          let k = rw (length-demandsOf s) at l in
+          let r = jobsInRange-at (s .slots) 0 (s .jobs) (v .jobs) j k .1 in
+          omega (arith, volumeOf-demandsOf s j k, r .volume .le, r .deadline, r .release, v .head .slots .le);
+    }
+
+-- the day of accepted bytes
+pub accepted-inRange : (b : List ℕ) → faults b ≡ [] → DayInRange (sheetOf b .slots) (sheetOf b .blowers) (demandsOf (sheetOf b))
+accepted-inRange b e = demandsOf-inRange (sheetOf b) (wellFormed-faults b e .values)

@@ -1,0 +1,44 @@
+-- Placing demands in the slots of a day. Each file's head says in a sentence what it is about.
+-- Definitions, in reading order
+pub mod Slots
+pub mod Schedules
+pub mod Shortfall
+pub mod Calls
+-- The theorems a reader looks for
+pub mod Theorems
+pub mod Text
+pub mod Meanings
+pub mod Days
+-- What the words hold, as the layers above see them
+pub mod Represents
+-- What a search must know to answer
+pub mod Certificates
+pub mod OneSlot
+pub mod AsFunctions
+-- Laws of the definitions
+pub mod FeasibleLaws
+pub mod CriticalLaws
+pub mod GreatestLaws
+pub mod EnumerationLaws
+pub mod WindowLaws
+pub mod Differences
+pub mod Tabulate
+pub mod ListLaws
+pub mod DemandLaws
+pub mod CallLaws
+-- What the functions within the crate require and ensure, and the steps of their loops
+pub mod Rations
+pub mod Words
+pub mod ShortfallParts
+pub mod BoundsParts
+pub mod ReadLaws
+pub mod EveryLaws
+pub mod FillLaws
+pub mod MarkSteps
+pub mod SignedSteps
+pub mod WindowSteps
+pub mod ShortfallSteps
+pub mod BoundsSteps
+pub mod StepLaws
+pub mod BeginLaws
+pub mod FeasibilitySteps

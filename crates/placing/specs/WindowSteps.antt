@@ -1,0 +1,198 @@
+-- The steps of the loop that writes windows into words, and what the bytes of all volumes are. Assumes nothing.
+use mathlib.Core.Path.{_≡_, refl, sym, ap, subst, _∙_}
+use mathlib.Core.Logic.{_≢_, _⊎_, inl, inr}
+use mathlib.Core.Bool.{Bool, true, false, _&&_}
+use mathlib.Core.List.{List, [], _∷_}
+use Prim.Native.Nat.{ℕ, zero, suc, _+_, _-_, _*_, _/_, _%_, _^_, _≤_, _<_}
+use native.Mathlib.Nat.{eq-or-lt-of-le, le-of-suc-le-suc, pow-succ', div-eq-of-lt, add-zero}
+use native.Mathlib.Decide.{ℕ-discrete, decLt}
+use native.Mathlib.Numerals.{add-one}
+use native.Mathlib.Omega.{arith}
+use lib.Dec.{leb, ltb}
+use lib.ListN.{length, getD, set, replicate, length-set, length-replicate}
+use lib.Pow.{pow-pos}
+use lib.Seq.{getD-set-same, getD-set-other}
+use borrow.Author.Tests.{le-leb, lt-leb, leb-true, leb-false, lt-ltb, le-ltb, ltb-true, ltb-false}
+use Rattle.common.specs.Bits.{bit, add-same, add-other}
+use Rattle.sheet.specs.Limits.{maxSlots, maxRations}
+use Rattle.theory.specs.SumsOver.{one, pick}
+use Rattle.placing.specs.Slots.{has, window}
+use Rattle.placing.specs.Schedules.{Demand, noDemand, windowOf, volumeOf}
+use Rattle.placing.specs.Rations.{releaseAt, deadlineAt, volumeAt, demandAt, demandsFrom, RationAt, Rations}
+use Rattle.placing.specs.Words.{WindowWords, VolumeBytes, inWindow, CanMark, Marked}
+use Rattle.placing.specs.Tabulate.{length-tab, getD-tab}
+use Rattle.placing.specs.FillLaws.{getD-zeros, FilledTo}
+use Rattle.placing.specs.WindowLaws.{has-window}
+
+-- One window --------------------------------------------------------------------
+
+-- the slots of the window before slot t are marked
+pub record MarkedTo (j release deadline t : ℕ) (W W′ : List ℕ) : Type 0 where
+  pub from : release ≤ t + 1
+  pub to : t ≤ deadline
+  pub long : length W′ ≡ maxSlots
+  pub words : (u : ℕ) → getD W′ u 0 ≡ getD W u 0 + pick (leb release (suc u) && ltb u t) (2 ^ j)
+
+pick-false : (b : Bool) (x y : ℕ) → b ≡ false → x ≡ x + pick b y
+pick-false b x y e = rw e (sym (add-zero x))
+
+and-second-false : (a : Bool) {b : Bool} → (a ≡ true → b ≡ false) → (a && b) ≡ false
+and-second-false true h = h refl
+and-second-false false h = refl
+
+bit-below : (w j : ℕ) → w < 2 ^ j → bit w j ≡ 0
+unfolding bit
+bit-below w j h = rw (div-eq-of-lt h)
+
+module _ (W : List ℕ) (j release deadline : ℕ) (h : CanMark W j release deadline) where
+  pub mark-begin : MarkedTo j release deadline (release - 1) W W
+  mark-begin =
+      record {
+        from = omega arith;
+        to = omega (arith, h .order);
+        long = h .long;
+        words = λ u.
+            pick-false (leb release (suc u) && ltb u (release - 1)) (getD W u 0) (2 ^ j)
+            (and-second-false (leb release (suc u)) (λ e. le-ltb u (release - 1) (omega (arith, leb-true release (suc u) e))));
+      }
+
+  module _ (t : ℕ) (W′ : List ℕ) (m : MarkedTo j release deadline t W W′) where
+    module _ (l : t < deadline) where
+      here : getD W′ t 0 ≡ getD W t 0
+      here =
+          m .words t
+          ∙ sym (pick-false (leb release (suc t) && ltb t t) (getD W t 0) (2 ^ j) (and-second-false (leb release (suc t)) (λ e. le-ltb t t (omega arith))))
+
+      pub mark-bit : (j < maxRations) × (bit (getD W′ t 0) j ≡ 0)
+      mark-bit = (h .ration, rw here (bit-below (getD W t 0) j (h .below t)))
+
+      pub mark-next : (r : ℕ) → r ≡ getD W′ t 0 + 2 ^ j → MarkedTo j release deadline (t + 1) W (set W′ t r)
+      mark-next r e =
+          record {
+            from = omega (arith, m .from);
+            to = omega arith;
+            long = length-set W′ t r ∙ m .long;
+            words = λ u. go u (ℕ-discrete u t);
+          }
+        where
+          same : (u : ℕ) → u ≢ t → ltb u t ≡ ltb u (t + 1)
+          same u n = at (ltb u t) refl
+            where
+              at : (x : Bool) → ltb u t ≡ x → x ≡ ltb u (t + 1)
+              at true p = sym (lt-ltb u (t + 1) (omega (arith, ltb-true u t p)))
+              at false p = sym (le-ltb u (t + 1) (omega (arith, ltb-false u t p)))
+
+          go : (u : ℕ) → Dec (u ≡ t) → getD (set W′ t r) u 0 ≡ getD W u 0 + pick (leb release (suc u) && ltb u (t + 1)) (2 ^ j)
+          go u (yes p) =
+              ap (λ x. getD (set W′ t r) x 0) p ∙ getD-set-same W′ t r 0 (omega (arith, m .long, h .last)) ∙ e
+              ∙ rw (p, le-leb release (suc t) (omega (arith, m .from)), lt-ltb t (t + 1) (omega arith), here)
+          go u (no n) =
+              getD-set-other W′ t u r 0 n ∙ m .words u ∙ ap (λ b. getD W u 0 + pick (leb release (suc u) && b) (2 ^ j)) (same u n)
+
+    pub mark-end : deadline ≤ t → Marked j release deadline W W′
+    mark-end l =
+        let e : t ≡ deadline = omega (arith, m .to) in
+        record { long = m .long; words = λ u. m .words u ∙ ap (λ b. getD W u 0 + pick (leb release (suc u) && b) (2 ^ j)) (same e u) }
+      where
+        same : t ≡ deadline → (u : ℕ) → ltb u t ≡ leb (suc u) deadline
+        same e u = at (ltb u t) refl
+          where
+            at : (x : Bool) → ltb u t ≡ x → x ≡ leb (suc u) deadline
+            at true p = sym (le-leb (suc u) deadline (omega (arith, ltb-true u t p)))
+            at false p = sym (lt-leb (suc u) deadline (omega (arith, ltb-false u t p)))
+
+-- All windows -------------------------------------------------------------------
+
+-- the words have the windows of the rations before j, and no other bit
+pub record WindowsTo (slots : ℕ) (numbers : List ℕ) (j : ℕ) (W : List ℕ) : Type 0 where
+  pub long : length W ≡ maxSlots
+  pub few : (t : ℕ) → getD W t 0 < 2 ^ j
+  pub past : (t : ℕ) → slots ≤ t → getD W t 0 ≡ 0
+  pub window : (k t : ℕ) → k < j → bit (getD W t 0) k ≡ one (inWindow (releaseAt numbers k) (deadlineAt numbers k) t)
+
+pub windows-begin : (slots : ℕ) (numbers : List ℕ) → WindowsTo slots numbers 0 (replicate maxSlots 0)
+windows-begin slots numbers =
+    record {
+      long = length-replicate {A = ℕ} maxSlots 0;
+      few = λ t. omega (arith, getD-zeros maxSlots t);
+      past = λ t l. getD-zeros maxSlots t;
+      window = λ k t l. absurd (omega arith);
+    }
+
+module _ (slots n : ℕ) (numbers : List ℕ) (h : Rations slots n numbers) where
+  module _ (j : ℕ) (l : j < n) (W : List ℕ) (w : WindowsTo slots numbers j W) where
+    pub windows-can : CanMark W j (releaseAt numbers j) (deadlineAt numbers j)
+    windows-can =
+        let r = h .each j l in
+        record {
+          long = w .long;
+          ration = omega (arith, h .few);
+          first = r .release;
+          order = r .window;
+          last = omega (arith, r .deadline, h .short);
+          below = w .few;
+        }
+
+    pub windows-next : (W′ : List ℕ) → Marked j (releaseAt numbers j) (deadlineAt numbers j) W W′ → WindowsTo slots numbers (j + 1) W′
+    windows-next W′ m =
+        record {
+          long = m .long;
+          few = λ t. omega (arith, m .words t, w .few t, pick-le (inWindow (releaseAt numbers j) (deadlineAt numbers j) t) (2 ^ j), ap (λ k. 2 ^ k) (add-one j), pow-succ' 2 j);
+          past = λ t p.
+              m .words t
+              ∙ sym (pick-false (inWindow (releaseAt numbers j) (deadlineAt numbers j) t) (getD W t 0) (2 ^ j)
+              (and-second-false (leb (releaseAt numbers j) (suc t)) (λ e. lt-leb (suc t) (deadlineAt numbers j) (omega (arith, h .each j l .deadline)))))
+              ∙ w .past t p;
+          window = λ k t p. ap (λ x. bit x k) (m .words t) ∙ at k t (ℕ-discrete k j) p;
+        }
+      where
+        pick-le : (b : Bool) (x : ℕ) → pick b x ≤ x
+        pick-le true x = omega arith
+        pick-le false x = omega arith
+
+        added : (t : ℕ) (b : Bool) → bit (getD W t 0 + pick b (2 ^ j)) j ≡ one b
+        added t true = add-same (getD W t 0) j (bit-below (getD W t 0) j (w .few t))
+        added t false = ap (λ x. bit x j) (add-zero (getD W t 0)) ∙ bit-below (getD W t 0) j (w .few t)
+
+        other : (t k : ℕ) → k ≢ j → (b : Bool) → bit (getD W t 0 + pick b (2 ^ j)) k ≡ bit (getD W t 0) k
+        other t k n true = add-other (getD W t 0) j k (bit-below (getD W t 0) j (w .few t)) n
+        other t k n false = ap (λ x. bit x k) (add-zero (getD W t 0))
+
+        at : (k t : ℕ) → Dec (k ≡ j) → k < j + 1
+            → bit (getD W t 0 + pick (inWindow (releaseAt numbers j) (deadlineAt numbers j) t) (2 ^ j)) k
+            ≡ one (inWindow (releaseAt numbers k) (deadlineAt numbers k) t)
+        at k t (yes e) p = rw e (added t (inWindow (releaseAt numbers j) (deadlineAt numbers j) t))
+        at k t (no n) p = other t k n (inWindow (releaseAt numbers j) (deadlineAt numbers j) t) ∙ w .window k t (omega arith)
+
+  pub windows-end : (j : ℕ) → j ≡ n → (W : List ℕ) → WindowsTo slots numbers j W → WindowWords slots (demandsFrom slots n numbers) W
+  unfolding demandsFrom
+  windows-end j e W w =
+      let c = length-tab n (demandAt slots numbers) in
+      record {
+        long = w .long;
+        few = λ t. omega (arith, w .few t, ap (λ k. 2 ^ k) (e ∙ sym c));
+        past = w .past;
+        window = λ k t l m.
+            let p : k < n = rw c at l in
+            ap one (ap (λ d. has (d .window) t) (getD-tab n (demandAt slots numbers) noDemand k p)
+            ∙ has-window slots (releaseAt numbers k) (deadlineAt numbers k) t m)
+            ∙ sym (w .window k t (omega arith));
+      }
+
+-- Volumes -----------------------------------------------------------------------
+
+module _ (slots n : ℕ) (numbers : List ℕ) (h : Rations slots n numbers) where
+  pub volume-small : (j : ℕ) → j < n → volumeAt numbers j ≤ maxSlots
+  volume-small j l = let r = h .each j l in omega (arith, r .volume, r .deadline, r .release, h .short)
+
+  pub volumes-end : (j : ℕ) → j ≡ n → (N : List ℕ) → FilledTo maxRations (volumeAt numbers) j N → VolumeBytes (demandsFrom slots n numbers) N
+  unfolding demandsFrom
+  volumes-end j e N v =
+      let c = length-tab n (demandAt slots numbers) in
+      record {
+        long = v .long;
+        volume = λ k l.
+            let p : k < n = rw c at l in
+            v .filled k (omega arith) ∙ sym (ap (λ d. d .volume) (getD-tab n (demandAt slots numbers) noDemand k p));
+        past = λ k l. v .past k (omega arith);
+      }

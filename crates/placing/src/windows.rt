@@ -1,0 +1,60 @@
+// Windows in words: a word for each slot, in which bit j says that the slot is in the window of ration j.
+ghost use mathlib.Core.Path.{_≡_};
+ghost use Prim.Native.Nat.{ℕ, _+_, _^_, _≤_, _<_};
+ghost use Rattle.common.specs.Bits.{bit};
+ghost use Rattle.placing.specs.Rations.{demandsFrom, Rations};
+ghost use Rattle.placing.specs.Words.{CanMark, Marked, WindowWords, VolumeBytes};
+
+// w with the bit j set.
+fn add_bit(w: u64, j: u32) -> u64
+    requires { ⌜ (j < 64) × (bit w j ≡ 0) ⌝ }
+    ensures { λ r. ⌜ r ≡ w + 2 ^ j ⌝ }
+{
+    w + (1u64 << j)
+}
+
+// Sets bit j in the words of a window's slots.
+fn mark_window(windows: &mut [u64; 96], j: u32, release: usize, deadline: usize)
+    requires { ⌜ CanMark (now windows) j release deadline ⌝ }
+    ensures { λ _. ⌜ Marked j release deadline (now (windows .entry)) (now (windows .exit)) ⌝ }
+{
+    let mut t = release - 1;
+    while t < deadline {
+        windows[t] = add_bit(windows[t], j);
+        t += 1;
+    }
+}
+
+// The windows of n rations. `slots` is the day's length; words past it are 0.
+pub fn windows_of(slots: usize, n: usize, numbers: &[u32; 256]) -> [u64; 96]
+    requires { ⌜ Rations slots n (now numbers) ⌝ }
+    ensures { λ r. ⌜ WindowWords slots (demandsFrom slots n (now (numbers .entry))) r ⌝ }
+{
+    let mut windows = [0u64; 96];
+    let mut j = 0;
+    while j < n {
+        let at = 4 * j;
+        mark_window(
+            &mut windows,
+            j as u32,
+            numbers[at + 1] as usize,
+            numbers[at + 2] as usize,
+        );
+        j += 1;
+    }
+    windows
+}
+
+// The volumes of n rations, 0 past the last.
+pub fn volumes_of(slots: usize, n: usize, numbers: &[u32; 256]) -> [u8; 64]
+    requires { ⌜ Rations slots n (now numbers) ⌝ }
+    ensures { λ r. ⌜ VolumeBytes (demandsFrom slots n (now (numbers .entry))) r ⌝ }
+{
+    let mut volumes = [0u8; 64];
+    let mut j = 0;
+    while j < n {
+        volumes[j] = numbers[4 * j + 3] as u8;
+        j += 1;
+    }
+    volumes
+}
