@@ -2,6 +2,7 @@
 //! from its definitions and a max flow, to say what the planner must answer.
 
 pub mod cases;
+pub mod damage;
 pub mod draws;
 pub mod flow;
 pub mod generate;

@@ -1,6 +1,7 @@
 //! The command line of the reference implementation; see README.md.
 
 use reference::cases::{self, Case};
+use reference::damage;
 use reference::draws::Draws;
 use reference::generate::{self, FULL};
 use reference::listing;
@@ -68,7 +69,7 @@ fn generated(kind: &str, seed: u32) -> Option<Vec<u8>> {
         "tight" => generate::tight_sheet(draws, FULL),
         "crowded" => generate::crowded_sheet(draws, FULL),
         "held" => generate::held_sheet(draws, FULL),
-        "damaged" => return Some(generate::damaged_sheet(draws, FULL)),
+        "damaged" => return Some(damage::damaged_sheet(draws, FULL)),
         _ => return None,
     };
     Some(sheet.text())

@@ -2,8 +2,9 @@
 //! enumerating anything. Each answer of the flow is checked by what it shows, a
 //! placing or a set of slots, so these runs would stop at a wrong one.
 
+use reference::damage::damaged_sheet;
 use reference::draws::Draws;
-use reference::generate::{any_sheet, damaged_sheet, held_sheet, tight_sheet, FULL};
+use reference::generate::{any_sheet, held_sheet, tight_sheet, FULL};
 use reference::listing::{compare, program, PLAN_BUFFER};
 use reference::method::{self, State};
 use reference::placing::{bounds, shortfall, Question};

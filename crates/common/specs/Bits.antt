@@ -1,10 +1,10 @@
 -- Bits of a number: `bit w j` is 1 where w has the bit j, and else 0. Assumes nothing.
 use mathlib.Core.Path.{_≡_, refl, sym, ap, _∙_}
 use mathlib.Core.Logic.{_≢_, ⊎-elim}
-use Prim.Native.Nat.{ℕ, zero, suc, _+_, _-_, _*_, _/_, _%_, _^_, _≤_, _<_, min}
+use Prim.Native.Nat.{ℕ, zero, suc, _+_, _-_, _*_, _/_, _%_, _^_, _≤_, _<_, min, max}
 use native.Mathlib.Nat.{pow-succ', div-div-eq-div-mul, div-one, zero-div, not-suc-le-zero, le-of-suc-le-suc, eq-zero-or-pos, one-mul, mod-eq-of-lt}
 use native.Mathlib.Omega.{arith}
-use lib.Bits.{bitAnd, and-shr, and-step}
+use lib.Bits.{bitAnd, bitOr, and-shr, and-step, or-shr, or-step}
 use lib.Pow.{pow-lt}
 use lib.Arith.{bin-ind}
 use lib.Count.{ones, ones-step, trailingZeros, under}
@@ -135,3 +135,8 @@ ones-sub w j e =
 
 pub bit-none : (w j : ℕ) → bit w j ≢ 1 → bit w j ≡ 0
 bit-none w j n = omega (arith, bit-lt w j)
+
+-- the bits of a | b
+pub bit-or : (a b j : ℕ) → bit (bitOr a b) j ≡ max (bit a j) (bit b j)
+unfolding bit
+bit-or a b j = rw (or-shr a b j, or-step (a / 2 ^ j) (b / 2 ^ j)) (omega arith)

@@ -63,9 +63,9 @@ pub record Move (F R F′ R′ : List ℕ) (x y : ℕ) : Type 0 where
   pub fed : F′ ≡ set (set F x (at F x - 2 ^ j)) y (at F y + 2 ^ j)
   pub rest : R′ ≡ set (set R x (at R x + 2 ^ j)) y (at R y - 2 ^ j)
 
--- a chain of moves from x to e, the last one made first
+-- a chain of moves from x to e, the last one made first; or none, where x is e
 pub data Path : List ℕ → List ℕ → List ℕ → List ℕ → ℕ → ℕ → Type 0 where
-  one : {F R F′ R′ : List ℕ} {x e : ℕ} → Move F R F′ R′ x e → Path F R F′ R′ x e
+  stay : {F R : List ℕ} {x : ℕ} → Grid F R → Path F R F R x x
   more :
       {F R F₁ R₁ F′ R′ : List ℕ} {x y e : ℕ} →
       Path F R F₁ R₁ y e →

@@ -1,22 +1,11 @@
--- The grid of feedings and the search on it. Definitions first: what this crate takes of the theory, bits of a word, the grid, what the search,
--- the relief of slots and the first placing require and ensure, and what a grid means. `Theorems` names the main laws. Then the laws, a file
--- for each step.
+-- The grid of feedings and the search on it. Definitions first: bits of a word, the grid, what the search requires and ensures. Then the laws,
+-- a file for each step: moves, one move found, marks, the front of a search, how it spreads, how a ration is carried along the chain.
 pub mod Theory
 pub mod Grid
 pub mod Search
-pub mod Relief
-pub mod First
-pub mod Meaning
-pub mod Theorems
 pub mod MoveLaws
 pub mod ShiftLaws
-pub mod SearchLaws
-pub mod UnloadLaws
-pub mod RelieveLaws
-pub mod ExchangeLaws
-pub mod FirstLaws
-pub mod MeaningLaws
-pub mod HeldLaws
-pub mod StateLaws
-pub mod RaiseLaws
-pub mod StartLaws
+pub mod MarkLaws
+pub mod FrontLaws
+pub mod SpreadLaws
+pub mod CarryLaws

@@ -3,6 +3,7 @@ use mathlib.Core.Path.{_≡_, refl, sym, ap, _∙_, subst}
 use mathlib.Core.Logic.{_≢_}
 use mathlib.Core.List.{List}
 use Prim.Native.Nat.{ℕ, _+_, _-_, _^_, _<_}
+use native.Mathlib.Nat.{pos-of-ne-zero}
 use native.Mathlib.Decide.{ℕ-discrete, decLt}
 use native.Mathlib.Omega.{arith}
 use borrow.Author.Tests.{eq-eqb, ne-eqb}
@@ -12,7 +13,7 @@ use lib.Count.{ones}
 use lib.Bits.{bitAnd, and-zero-r}
 use Rattle.grid.specs.Theory.{sum-change}
 use Rattle.common.specs.Bits.{bit, bit-lt, bit-le, some-bit, both-of-and, and-of-both, add-same, add-other, sub-same, ones-add, ones-sub}
-use Rattle.grid.specs.Grid.{slots, at, load, volume, Seen, Edge, Closed, Grid, Move, Path, one, more, Rearranged, tick, ind}
+use Rattle.grid.specs.Grid.{slots, at, load, volume, Seen, Edge, Closed, Grid, Move, Path, stay, more, Rearranged, tick, ind}
 
 -- by cases: t is x, or y, or neither
 pub slot-cases : (P : ℕ → Type 0) (x y : ℕ) → P x → P y → ((t : ℕ) → t ≢ x → t ≢ y → P t) → (t : ℕ) → P t
@@ -65,15 +66,18 @@ sub-bits w j k e =
     let b : w - 2 ^ j + 2 ^ j ≡ w = omega (arith, bit-le w j e) in
     sym (add-bits (w - 2 ^ j) j k (sub-same w j e)) ∙ ap (λ (v : ℕ). bit v k) b
 
+-- a list has nothing past the grid
+pub seen-slot : (L : List ℕ) (t : ℕ) → length L ≡ slots → 0 < at L t → t < slots
+seen-slot L t e h = go (decLt t slots)
+  where
+    go : Dec (t < slots) → t < slots
+    go (yes l) = l
+    go (no l) = let z : at L t ≡ 0 = List·getD-eq-default L 0 (omega arith) in absurd (omega arith)
+
 -- an edge ends in a slot of the grid
 pub edge-below : {F R : List ℕ} (x y : ℕ) → Grid F R → Edge F R x y → y < slots
-edge-below {F} {R} x y g e = go (decLt y slots)
-  where
-    go : Dec (y < slots) → y < slots
-    go (yes h) = h
-    go (no h) =
-        let z : at R y ≡ 0 = List·getD-eq-default R 0 (omega (arith, g .rest)) in
-        absurd (e (rw z (and-zero-r (at F x))))
+edge-below {F} {R} x y g e =
+    seen-slot R y (g .rest) (pos-of-ne-zero (λ z. e (rw z (and-zero-r (at F x)))))
 
 -- ---- a move
 
@@ -192,15 +196,15 @@ rearranged-trans p q =
     }
 
 pub path-rearranged : {F R F′ R′ : List ℕ} {x e : ℕ} → Path F R F′ R′ x e → Rearranged F R F′ R′
-path-rearranged (one m) = move-rearranged m
+path-rearranged (stay g) = rearranged-none g
 path-rearranged (more p f r m) = rearranged-trans (path-rearranged p) (move-rearranged m)
 
 -- x feeds one ration less, the chain's end one more, and every other slot as many as before
 pub path-load : {F R F′ R′ : List ℕ} {x e : ℕ} → Path F R F′ R′ x e → (t : ℕ) → load F′ t + ind t x ≡ load F t + ind t e
-path-load (one m) t = move-load m t
+path-load (stay g) t = refl
 path-load (more p f r m) t = omega (arith, move-load m t, path-load p t)
 
 -- what rests in x still rests there
 pub path-rests : {F R F′ R′ : List ℕ} {x e : ℕ} → Path F R F′ R′ x e → (k : ℕ) → bit (at R x) k ≡ 1 → bit (at R′ x) k ≡ 1
-path-rests (one m) k h = move-rests m k h
+path-rests (stay g) k h = h
 path-rests (more p f r m) k h = move-rests m k (ap (λ (w : ℕ). bit w k) r ∙ h)

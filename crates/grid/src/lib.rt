@@ -4,6 +4,7 @@
 // edge to slot y where `fed[x] & rest[y]` is not 0: a ration that is fed in x could be fed in y instead. Moving it keeps every volume, takes one
 // from x and gives one to y.
 pub mod bits;
-pub mod first;
-pub mod relief;
 pub mod search;
+
+// The slots of a grid. A shorter day leaves the last words 0.
+pub const SLOTS: usize = 96;

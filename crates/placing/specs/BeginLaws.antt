@@ -6,12 +6,12 @@ use Prim.Native.Nat.{ℕ, _+_, _≤_, _<_}
 use native.Mathlib.Omega.{arith}
 use lib.ListN.{length, replicate, length-replicate, getD-replicate}
 use Rattle.grid.specs.Grid.{at, load}
-use Rattle.grid.specs.Relief.{Relieved, Widths}
-use Rattle.grid.specs.First.{Started}
-use Rattle.grid.specs.Meaning.{Places, bitAt, seenAt}
-use Rattle.grid.specs.MeaningLaws.{count-load, places-placing, places-moved}
-use Rattle.grid.specs.HeldLaws.{words-closed}
-use Rattle.grid.specs.StartLaws.{relieved-state, relieved-critical, relieved-none, started-places}
+use Rattle.loads.specs.Relief.{Relieved, Widths}
+use Rattle.loads.specs.First.{Started}
+use Rattle.loads.specs.Meaning.{Places, bitAt, seenAt}
+use Rattle.loads.specs.MeaningLaws.{count-load, places-placing, places-moved}
+use Rattle.loads.specs.HeldLaws.{words-closed}
+use Rattle.loads.specs.StartLaws.{relieved-state, relieved-critical, relieved-none, started-places}
 use Rattle.common.specs.Tests.{false-of-not-true}
 use Rattle.theory.specs.SumsOver.{sumOn, on-cong}
 use Rattle.theory.specs.Placing.{count}
@@ -23,7 +23,7 @@ use Rattle.placing.specs.CriticalLaws.{critical-as}
 use Rattle.placing.specs.Tabulate.{tab}
 use Rattle.placing.specs.AsFunctions.{free, bound, sound-bounded}
 use Rattle.placing.specs.Certificates.{closed-forced}
-use Rattle.placing.specs.Represents.{Represents, DemandWords, HighWords, Begun}
+use Rattle.placing.specs.Represents.{Represents, DemandWords, HighWords, Begun, marksOf, markedLoads}
 use Rattle.placing.specs.StepLaws.{state-bounds, represents-feasible}
 
 -- a set is critical for highs that agree within the day
@@ -57,10 +57,12 @@ module _ {W N F R H F′ R′ C′ S′ : List ℕ} {r : Bool} (h : length H ≡
         let q = sound-bounded (d .windows) (feasible-sound (d .windows) (length-replicate slots 0) (g .long) f .1) in
         relieved-none places w e (q .0) (λ u l. omega (arith, q .1 u l, g .same u l)))
 
-    marked : r ≡ false → criticalSet slots ds high ≡ tab slots (seenAt S′)
+    marked : r ≡ false → criticalSet slots ds high ≡ tab slots (marksOf S′)
+    unfolding seenAt
     marked e = critical-as (d .windows) high (g .long) (critical-highs (g .same) (relieved-critical places w e))
 
-    counted : r ≡ false → forced ds (criticalSet slots ds high) ≡ sumOn slots (seenAt S′) (load F′)
+    counted : r ≡ false → forced ds (criticalSet slots ds high) ≡ markedLoads slots F′ S′
+    unfolding markedLoads seenAt
     counted e =
         let q = places-moved places (w .moved) in
         ap (forced ds) (marked e)
@@ -74,6 +76,8 @@ module _ {W N F R H F′ R′ C′ S′ : List ℕ} {r : Bool} (h : length H ≡
   pub begun : Begun r W N H F′ R′ C′ S′
   begun =
       record {
+        fed-long = w .moved .grid .fed;
+        marks-long = λ e. w .held e .stuck .marks;
         answer = λ slots ds high d g. answer slots ds high d g r refl;
         yes = λ e slots ds high d g. yes slots ds high d g e;
         marked = λ e slots ds high d g. marked slots ds high d g e;

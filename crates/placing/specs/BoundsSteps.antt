@@ -1,7 +1,7 @@
 -- The steps of the call `bounds`: the loops over the two lists, and its answer. Assumes nothing.
 use mathlib.Core.Path.{_≡_, refl, sym, ap, ap₂, subst, _∙_}
-use mathlib.Core.Bool.{Bool, true, false, not, _&&_, false≢true}
-use mathlib.Core.List.{List, [], _∷_, map}
+use mathlib.Core.Bool.{Bool, true, false, not, false≢true}
+use mathlib.Core.List.{List}
 use Prim.Native.Nat.{ℕ, _+_, _≤_, _<_, min}
 use native.Mathlib.Decide.{decLt}
 use native.Mathlib.Omega.{arith}
@@ -13,16 +13,15 @@ use Rattle.common.specs.Lists.{every, zipWith}
 use Rattle.sheet.specs.declared.Refusal.{Refusal}
 use Rattle.sheet.specs.declared.Reading.{Reading}
 use Rattle.sheet.specs.Limits.{maxSlots, maxBlowers}
-use Rattle.sheet.specs.Sheet.{Sheet, sheetOf}
-use Rattle.sheet.specs.Checks.{fault, firstRefusal, faults}
+use Rattle.sheet.specs.Sheet.{sheetOf}
+use Rattle.sheet.specs.Checks.{fault, firstRefusal}
 use Rattle.sheet.specs.Calls.{padded, readingOf}
 use Rattle.common.specs.Tests.{or-false}
 use Rattle.sheet.specs.ReadSteps.{length-padded}
 use Rattle.common.specs.Tests.{false-of-not-true}
-use Rattle.placing.specs.declared.BoundsAnswer.{BoundsAnswer}
 use Rattle.placing.specs.Schedules.{Demand, Windows, atMost, feasible}
 use Rattle.placing.specs.Calls.{demandsOf, boundsFault, boundsRefusal, cutHighs, sheetFeasible, boundsOf}
-use Rattle.placing.specs.Rations.{demandsFrom, Rations}
+use Rattle.placing.specs.Rations.{demandsFrom}
 use Rattle.placing.specs.BoundsParts.{SmallLows, CanAsk}
 use Rattle.placing.specs.Tabulate.{getD-map-below, length-zipWith, getD-zipWith, atMost-at, at-atMost}
 use Rattle.placing.specs.FeasibleLaws.{feasible-sound}
@@ -110,9 +109,6 @@ module _ (b lows highs : List ℕ) (r : Reading) (e : r ≡ readingOf b) where
   module _ (z : r .number ≡ 0) where
     a : Read b r
     a = read-accepted b r e z
-
-    pub highs-cut : r .blowers ≤ maxBlowers
-    highs-cut = a .blown
 
     refusal : (t : Bool) → t ≡ boundsFault (r .slots) lows highs → boundsRefusal b lows highs ≡ firstRefusal (fault 11 0 t)
     unfolding boundsRefusal

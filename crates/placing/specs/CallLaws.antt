@@ -1,24 +1,23 @@
 -- What the calls' answers say: the range of a shortfall, and that yes stands for a sound placing. Assumes nothing.
-use mathlib.Core.Path.{_≡_, refl, sym, ap, _∙_}
+use mathlib.Core.Path.{_≡_, refl, _∙_}
 use mathlib.Core.Logic.{_↔_}
-use mathlib.Core.Bool.{Bool, true, false, not, _&&_, cond}
-use mathlib.Core.List.{List, [], _++_}
-use Prim.Native.Nat.{ℕ, _≤_, _<_}
+use mathlib.Core.Bool.{Bool, true, false, not, cond}
+use mathlib.Core.List.{List, []}
+use Prim.Native.Nat.{ℕ, _≤_}
 use native.Mathlib.Omega.{arith}
 use lib.Dec.{eqb}
-use lib.IntN.{ℤ, pos, negsuc}
-use lib.ListN.{length, getD, length-replicate, getD-replicate}
+use lib.IntN.{pos, negsuc}
+use lib.ListN.{length, length-replicate, getD-replicate}
 use lib.Signed.{_≤ℤ_, leZ-yes}
 use borrow.Author.Tests.{eqb-true, eq-eqb, not-false}
-use Rattle.sheet.specs.Limits.{maxSlots, maxBlowers, maxRations}
 use Rattle.sheet.specs.Sheet.{sheetOf}
 use Rattle.sheet.specs.Checks.{fault, firstRefusal, faults}
 use Rattle.common.specs.Tests.{or-false}
-use Rattle.sheet.specs.FaultLaws.{Numbered, numbered-append, numbered-faults, numbered-fault, append-nil-parts, false-fault}
-use Rattle.placing.specs.Schedules.{Schedule, Sound, feasible}
+use Rattle.sheet.specs.FaultLaws.{numbered-append, numbered-faults, numbered-fault, append-nil-parts, false-fault}
+use Rattle.placing.specs.Schedules.{Schedule, Sound}
 use Rattle.placing.specs.Calls.{demandsOf, fullHigh, marked, marksFault, marksRefusal, sheetShortfall, shortfallOf, boundsFault, boundsRefusal, cutHighs, sheetFeasible, boundsOf}
 use Rattle.placing.specs.Theorems.{feasible-iff-sound, shortfall-of-day}
-use Rattle.placing.specs.DemandLaws.{accepted-inRange, windows-demandsOf}
+use Rattle.placing.specs.DemandLaws.{accepted-inRange, accepted-blowers, windows-demandsOf}
 use Rattle.placing.specs.MarkSteps.{length-marked}
 use Rattle.placing.specs.BoundsSteps.{length-cutHighs}
 
@@ -40,7 +39,7 @@ unfolding sheetShortfall fullHigh
 sheetShortfall-range b marks e l =
     let r = accepted-inRange b e in
     shortfall-of-day (r .windows) (fullHigh (sheetOf b)) (length-replicate (sheetOf b .slots) (sheetOf b .blowers)) (r .few) (r .small) (r .short)
-    (λ t m. omega (arith, getD-replicate (sheetOf b .slots) t (sheetOf b .blowers) 0 m, r .blown))
+    (λ t m. omega (arith, getD-replicate (sheetOf b .slots) t (sheetOf b .blowers) 0 m, accepted-blowers b e))
     (marked marks) (length-marked marks ∙ l)
 
 -- whatever is lent, the shortfall answered is from −768 to 6,144

@@ -1,6 +1,6 @@
 -- The calls for outsiders: what each answers to a sheet's bytes and its lists. Definitions only. Assumes nothing.
-use mathlib.Core.Bool.{Bool, true, false, _&&_, _||_, not, cond}
-use mathlib.Core.List.{List, [], _∷_, _++_, map}
+use mathlib.Core.Bool.{Bool, _&&_, _||_, not, cond}
+use mathlib.Core.List.{List, _++_, map}
 use Prim.Native.Nat.{ℕ, min}
 use lib.Dec.{leb, eqb}
 use lib.ListN.{length, replicate}

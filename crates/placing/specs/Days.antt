@@ -1,7 +1,7 @@
 -- The starred days of 'Days at the edge', as rows of one table: what a call's definition gives for a sheet's text, beside what document 01
 -- says. An upper layer's rows join these (`placingDays ++ ..`) under the same statement. Assumes nothing.
 use mathlib.Core.Path.{_≡_, refl}
-use mathlib.Core.Bool.{true, false}
+use mathlib.Core.Bool.{false}
 use mathlib.Core.List.{List, [], _∷_}
 use Prim.Native.Nat.{ℕ}
 use Prim.Native.String.{String}

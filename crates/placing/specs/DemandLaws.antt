@@ -1,5 +1,5 @@
 -- The demands of a sheet: their windows are of the day, and where the sheet is accepted they are few and their volumes fit. Assumes nothing.
-use mathlib.Core.Path.{_≡_, refl, sym, ap, _∙_}
+use mathlib.Core.Path.{_≡_, ap, _∙_}
 use mathlib.Core.Bool.{true}
 use mathlib.Core.List.{List, [], _∷_}
 use Prim.Native.Nat.{ℕ, zero, suc, _-_, _≤_, _<_}
@@ -53,22 +53,18 @@ jobsInRange-at slots before [] h j l = absurd (omega arith)
 jobsInRange-at slots before (x ∷ js) h zero l = (before, h .0)
 jobsInRange-at slots before (x ∷ js) h (suc j) l = jobsInRange-at slots (x .tank) js (h .1) j (omega arith)
 
--- What the checks 3 to 9 leave of a day's slots, blowers and demands.
-pub record DayInRange (slots blowers : ℕ) (ds : List Demand) : Type 0 where
-  pub some : 1 ≤ slots
+-- What the checks 3 to 9 leave of the demands of a day.
+pub record DemandsInRange (slots : ℕ) (ds : List Demand) : Type 0 where
   pub short : slots ≤ maxSlots
-  pub blown : blowers ≤ maxBlowers
   pub few : length ds ≤ maxRations
   pub windows : Windows slots ds
   pub fits : (j : ℕ) → j < length ds → volumeOf ds j ≤ count (windowOf ds j)
   pub small : (j : ℕ) → j < length ds → volumeOf ds j ≤ maxSlots
 
-pub demandsOf-inRange : (s : Sheet) → ValuesInRange s (length (s .jobs)) true → DayInRange (s .slots) (s .blowers) (demandsOf s)
+pub demandsOf-inRange : (s : Sheet) → ValuesInRange s (length (s .jobs)) true → DemandsInRange (s .slots) (demandsOf s)
 demandsOf-inRange s v =
     record {
-      some = v .head .slots .ge;
       short = v .head .slots .le;
-      blown = v .head .blowers .le;
       few = omega (arith, length-demandsOf s, v .head .rations);
       windows = windows-demandsOf s;
       fits = λ j l.
@@ -88,5 +84,8 @@ demandsOf-inRange s v =
     }
 
 -- the day of accepted bytes
-pub accepted-inRange : (b : List ℕ) → faults b ≡ [] → DayInRange (sheetOf b .slots) (sheetOf b .blowers) (demandsOf (sheetOf b))
+pub accepted-inRange : (b : List ℕ) → faults b ≡ [] → DemandsInRange (sheetOf b .slots) (demandsOf (sheetOf b))
 accepted-inRange b e = demandsOf-inRange (sheetOf b) (wellFormed-faults b e .values)
+
+pub accepted-blowers : (b : List ℕ) → faults b ≡ [] → sheetOf b .blowers ≤ maxBlowers
+accepted-blowers b e = wellFormed-faults b e .values .head .blowers .le

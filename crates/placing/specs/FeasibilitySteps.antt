@@ -11,16 +11,16 @@ use lib.Seq.{length-take-le, getD-take, take-suc, set-append-seam, getD-append-a
 use Rattle.sheet.specs.Limits.{fields, maxSlots, maxRations}
 use Rattle.common.specs.Lists.{count}
 use Rattle.theory.specs.Placing.{size}
-use Rattle.grid.specs.Meaning.{Given}
-use Rattle.grid.specs.First.{CanStart}
-use Rattle.grid.specs.StartLaws.{given-start}
+use Rattle.loads.specs.Meaning.{Given}
+use Rattle.loads.specs.First.{CanStart}
+use Rattle.loads.specs.StartLaws.{given-start}
 use Rattle.placing.specs.Slots.{window, has}
 use Rattle.placing.specs.Schedules.{Demand, Windows, noDemand, windowOf, volumeOf, AtMost, feasible}
 use Rattle.placing.specs.Theorems.{infeasible-tighter}
 use Rattle.placing.specs.AsFunctions.{free, bound}
-use Rattle.placing.specs.Tabulate.{tab, length-tab, getD-tab, count-size}
-use Rattle.placing.specs.WindowLaws.{length-window, count-window}
-use Rattle.placing.specs.Rations.{Rations, releaseAt, deadlineAt, volumeAt, demandAt, demandsFrom}
+use Rattle.placing.specs.Tabulate.{count-size}
+use Rattle.placing.specs.Rations.{Rations, demandsFrom}
+use Rattle.placing.specs.RationLaws.{length-demandsFrom, rations-inRange}
 use Rattle.placing.specs.Words.{WindowWords, VolumeBytes}
 use Rattle.placing.specs.Represents.{Represents, Ready, raised, Busied, DemandWords, HighWords, CanBegin, Begun}
 use Rattle.placing.specs.StepLaws.{represents-ready, represents-feasible}
@@ -31,29 +31,14 @@ module _ {slots n : ℕ} {numbers : List ℕ} (r : Rations slots n numbers) wher
   abbrev ds : List Demand
   ds = demandsFrom slots n numbers
 
-  pub length-demandsFrom : length (demandsFrom slots n numbers) ≡ n
-  unfolding demandsFrom
-  length-demandsFrom = length-tab n (demandAt slots numbers)
-
-  demand-at : (j : ℕ) → j < n → getD (demandsFrom slots n numbers) j noDemand ≡ demandAt slots numbers j
-  unfolding demandsFrom
-  demand-at j l = getD-tab n (demandAt slots numbers) noDemand j l
-
   pub windows-demandsFrom : Windows slots (demandsFrom slots n numbers)
-  windows-demandsFrom =
-      record { all-day = λ j l. ap (λ d. length (d .window)) (demand-at j (rw length-demandsFrom at l)) ∙ length-window slots (releaseAt numbers j) (deadlineAt numbers j) }
+  windows-demandsFrom = rations-inRange r .windows
 
   fits : (j : ℕ) → j < length (demandsFrom slots n numbers) → volumeOf (demandsFrom slots n numbers) j ≤ size slots (free (demandsFrom slots n numbers) j)
   fits j l =
-      let m = rw length-demandsFrom at l in
-      let e = r .each j m in
-      let d = demand-at j m in
       omega (
         arith,
-        ap (λ d. d .volume) d,
-        e .volume,
-        count-window slots (releaseAt numbers j) (deadlineAt numbers j) (e .release) (e .deadline),
-        ap (λ d. count (d .window)) d,
+        rations-inRange r .fits j l,
         count-size (windowOf ds j),
         ap (λ k. size k (free ds j)) (windows-demandsFrom .all-day j l),
       )
@@ -67,7 +52,7 @@ module _ {slots n : ℕ} {numbers : List ℕ} (r : Rations slots n numbers) wher
               record {
                 long = w .long;
                 short = r .short;
-                most = omega (arith, length-demandsFrom, r .few);
+                most = omega (arith, length-demandsFrom slots n numbers, r .few);
                 few = w .few;
                 past = w .past;
                 window = w .window;

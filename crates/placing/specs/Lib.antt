@@ -11,6 +11,7 @@ pub mod Meanings
 pub mod Days
 -- What the words hold, as the layers above see them
 pub mod Represents
+pub mod CellChoice
 -- What a search must know to answer
 pub mod Certificates
 pub mod OneSlot
@@ -31,6 +32,8 @@ pub mod Rations
 pub mod Words
 pub mod ShortfallParts
 pub mod BoundsParts
+pub mod RationLaws
+pub mod WordLaws
 pub mod ReadLaws
 pub mod EveryLaws
 pub mod FillLaws
@@ -42,3 +45,9 @@ pub mod BoundsSteps
 pub mod StepLaws
 pub mod BeginLaws
 pub mod FeasibilitySteps
+pub mod HeldSteps
+pub mod ExactlyLaws
+pub mod CellWordLaws
+pub mod CellSearchLaws
+pub mod CellChoiceLaws
+pub mod ScheduleWordLaws

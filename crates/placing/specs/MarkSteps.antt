@@ -2,16 +2,15 @@
 use mathlib.Core.Path.{_≡_, refl, sym, ap, _∙_}
 use mathlib.Core.Logic.{_⊎_, inl, inr}
 use mathlib.Core.Bool.{Bool, true, false, _&&_, not}
-use mathlib.Core.List.{List, [], _∷_, map}
+use mathlib.Core.List.{List, map}
 use Prim.Native.Nat.{ℕ, zero, suc, _+_, _-_, _≤_, _<_}
 use native.Mathlib.Nat.{eq-or-lt-of-le}
-use native.Mathlib.Numerals.{add-one}
 use native.Mathlib.Omega.{arith}
 use lib.Dec.{leb, eqb}
 use lib.ListN.{length, getD, drop, length-map}
 use borrow.Author.Tests.{le-leb, lt-leb, eq-eqb, ne-eqb}
 use Rattle.common.specs.Lists.{count, every}
-use Rattle.theory.specs.Sums.{sum, sum-none, sum-next, sum-cong, sum-zero}
+use Rattle.theory.specs.Sums.{sum, sum-next, sum-cong, sum-zero}
 use Rattle.theory.specs.SumsOver.{one}
 use Rattle.theory.specs.Placing.{size}
 use Rattle.theory.specs.Row.{outside-is}

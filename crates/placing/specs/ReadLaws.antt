@@ -6,7 +6,6 @@ use Prim.Native.Nat.{ℕ, zero, suc, _+_, _-_, _*_, _≤_, _<_}
 use native.Mathlib.Omega.{arith}
 use lib.Dec.{eqb}
 use lib.ListN.{length, getD, replicate, List·getD-append}
-use borrow.Author.Tests.{ne-eqb, eqb-true}
 use Rattle.sheet.specs.declared.Refusal.{Refusal}
 use Rattle.sheet.specs.declared.Reading.{Reading}
 use Rattle.sheet.specs.Limits.{fields, maxBlowers, maxRations}
@@ -15,14 +14,13 @@ use Rattle.sheet.specs.Checks.{firstRefusal, faults}
 use Rattle.sheet.specs.Calls.{padded, accepted, refused, readingOf}
 use Rattle.sheet.specs.RangeLaws.{ValuesInRange}
 use Rattle.sheet.specs.WellFormedLaws.{wellFormed-faults}
-use Rattle.sheet.specs.FaultLaws.{numbered-faults}
 use Rattle.sheet.specs.NumbersLaws.{length-numbersOf}
 use Rattle.sheet.specs.CallLaws.{readingOf-accepted, faults-readingOf}
 use Rattle.sheet.specs.CheckSteps.{first-left, first-right}
 use Rattle.sheet.specs.ReadSteps.{length-padded}
 use Rattle.placing.specs.Schedules.{noDemand}
 use Rattle.placing.specs.Calls.{demandOf, demandsOf}
-use Rattle.placing.specs.Rations.{demandAt, demandsFrom, RationAt, Rations}
+use Rattle.placing.specs.Rations.{demandAt, demandsFrom, Rations}
 use Rattle.placing.specs.Tabulate.{tab-unique}
 use Rattle.placing.specs.DemandLaws.{noJob, length-demandsOf, demandsOf-at, jobsInRange-at}
 

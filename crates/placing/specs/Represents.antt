@@ -4,11 +4,12 @@ use mathlib.Core.Path.{_≡_}
 use mathlib.Core.Bool.{Bool, true, false}
 use mathlib.Core.List.{List}
 use Prim.Native.Nat.{ℕ, _+_, _-_, _^_, _≤_, _<_, min, max}
+use lib.Dec.{ltb}
 use lib.ListN.{length, getD, set, replicate}
 use Rattle.grid.specs.Grid.{at, load}
-use Rattle.grid.specs.Relief.{CanLower}
-use Rattle.grid.specs.Meaning.{State, Given, seenAt}
-use Rattle.grid.specs.First.{CanStart}
+use Rattle.loads.specs.Relief.{CanLower}
+use Rattle.loads.specs.Meaning.{State, Given, seenAt}
+use Rattle.loads.specs.First.{CanStart}
 use Rattle.theory.specs.SumsOver.{sumOn}
 use Rattle.placing.specs.Slots.{Slots}
 use Rattle.placing.specs.Schedules.{Demand, Windows, volumeOf, feasible}
@@ -61,6 +62,13 @@ pub record HighWords (slots : ℕ) (high H : List ℕ) : Type 0 where
   pub long : length high ≡ slots
   pub same : (t : ℕ) → t < slots → at H t ≡ bound high t
 
+-- the marked slots, and the feedings in them
+abbrev pub marksOf : List ℕ → ℕ → Bool
+marksOf S t = ltb 0 (getD S t 0)
+
+unfoldable pub markedLoads : ℕ → List ℕ → List ℕ → ℕ
+markedLoads slots F S = sumOn slots (seenAt S) (load F)
+
 -- what `begin` requires: each volume is at most its window's length, and the spares have a place for each slot
 pub record CanBegin (W N H C : List ℕ) : Type 0 where
   pub start : CanStart W N H
@@ -69,10 +77,12 @@ pub record CanBegin (W N H C : List ℕ) : Type 0 where
 -- `begin` answers whether a sound placing within the highs exists, and leaves one; or it marks the set contained in every set of greatest shortfall, and
 -- leaves a placing whose feedings in that set are what is forced into it
 pub record Begun (r : Bool) (W N H F′ R′ C′ S′ : List ℕ) : Type 0 where
+  pub fed-long : length F′ ≡ 96
+  pub marks-long : r ≡ false → length S′ ≡ 96
   pub answer : (slots : ℕ) (ds : List Demand) (high : List ℕ) → DemandWords slots ds W N → HighWords slots high H → r ≡ feasible slots ds (replicate slots 0) high
   pub yes : r ≡ true → (slots : ℕ) (ds : List Demand) (high : List ℕ) → DemandWords slots ds W N → HighWords slots high H
       → Represents slots ds (replicate slots 0) high F′ R′ H C′
   pub marked : r ≡ false → (slots : ℕ) (ds : List Demand) (high : List ℕ) → DemandWords slots ds W N → HighWords slots high H
-      → criticalSet slots ds high ≡ tab slots (seenAt S′)
+      → criticalSet slots ds high ≡ tab slots (marksOf S′)
   pub counted : r ≡ false → (slots : ℕ) (ds : List Demand) (high : List ℕ) → DemandWords slots ds W N → HighWords slots high H
-      → forced ds (criticalSet slots ds high) ≡ sumOn slots (seenAt S′) (load F′)
+      → forced ds (criticalSet slots ds high) ≡ markedLoads slots F′ S′

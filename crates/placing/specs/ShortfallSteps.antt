@@ -1,33 +1,32 @@
 -- The steps of the call `shortfall`: the sum over the rations, and its answer. Assumes nothing.
 use mathlib.Core.Path.{_≡_, refl, sym, ap, subst, _∙_}
-use mathlib.Core.Bool.{Bool, true, false, not, cond}
-use mathlib.Core.List.{List, [], _∷_, map}
-use Prim.Native.Nat.{ℕ, zero, suc, _+_, _-_, _*_, _≤_, _<_}
+use mathlib.Core.Bool.{Bool, true, false, not}
+use mathlib.Core.List.{List, [], _∷_}
+use Prim.Native.Nat.{ℕ, _+_, _-_, _*_, _≤_, _<_}
 use native.Mathlib.Nat.{mul-le-mul, mul-comm, suc-mul}
 use native.Mathlib.Omega.{arith}
 use lib.Dec.{eqb}
 use lib.IntN.{ℤ, pos, subℕ}
-use lib.ListN.{length, getD, replicate}
-use borrow.Author.Tests.{eq-eqb, eqb-true, ne-eqb, not-false}
-use Rattle.common.specs.Lists.{count, every}
+use lib.ListN.{length, replicate}
+use borrow.Author.Tests.{eqb-true, ne-eqb, not-false}
+use Rattle.common.specs.Lists.{count}
 use Rattle.sheet.specs.declared.Refusal.{Refusal}
 use Rattle.sheet.specs.declared.Reading.{Reading}
 use Rattle.sheet.specs.Limits.{maxSlots, maxBlowers, maxRations}
-use Rattle.sheet.specs.Sheet.{Sheet, sheetOf}
-use Rattle.sheet.specs.Checks.{fault, firstRefusal, faults}
+use Rattle.sheet.specs.Sheet.{sheetOf}
+use Rattle.sheet.specs.Checks.{fault, firstRefusal}
 use Rattle.sheet.specs.Calls.{readingOf}
 use Rattle.common.specs.Tests.{or-false}
 use Rattle.theory.specs.Sums.{sum, sum-next, sum-cong, sum-le-mul}
-use Rattle.placing.specs.declared.ShortfallAnswer.{ShortfallAnswer}
 use Rattle.placing.specs.Slots.{Slots, window, outside, sumOver}
-use Rattle.placing.specs.Schedules.{noDemand}
+use Rattle.placing.specs.Schedules.{noDemand, windowOf, volumeOf}
 use Rattle.placing.specs.Shortfall.{forced, shortfall}
-use Rattle.placing.specs.Calls.{demandsOf, fullHigh, isMark, marked, marksFault, marksRefusal, sheetShortfall, shortfallOf}
-use Rattle.placing.specs.Rations.{releaseAt, deadlineAt, volumeAt, demandAt, demandsFrom, Rations}
+use Rattle.placing.specs.Calls.{demandsOf, fullHigh, marked, marksFault, marksRefusal, sheetShortfall, shortfallOf}
+use Rattle.placing.specs.Rations.{releaseAt, deadlineAt, volumeAt, demandsFrom, Rations}
 use Rattle.placing.specs.ShortfallParts.{CanForce}
-use Rattle.placing.specs.Tabulate.{length-tab, getD-tab, sum-map}
+use Rattle.placing.specs.Tabulate.{sum-map}
 use Rattle.placing.specs.ReadLaws.{refused-before, accepted-before, Read, read-accepted}
-use Rattle.placing.specs.WindowSteps.{volume-small}
+use Rattle.placing.specs.RationLaws.{volume-small, length-demandsFrom, demandsFrom-at}
 use Rattle.placing.specs.MarkSteps.{length-marked}
 
 -- forced(Q) -----------------------------------------------------------------------
@@ -42,7 +41,7 @@ module _ (marks : List ℕ) (n : ℕ) (numbers : List ℕ) (h : Rations (length 
   forced-can j l = let r = h .each j l in record { first = r .release; order = r .window; last = r .deadline; short = h .short }
 
   forcedAt-small : (j : ℕ) → j < n → forcedAt marks numbers j ≤ maxSlots
-  forcedAt-small j l = omega (arith, volume-small (length marks) n numbers h j l)
+  forcedAt-small j l = omega (arith, volume-small h j l)
 
   -- the sum of the first rations fits
   pub forced-fits : (j : ℕ) → j ≤ n → sum j (forcedAt marks numbers) ≤ maxRations * maxSlots
@@ -55,12 +54,13 @@ module _ (marks : List ℕ) (n : ℕ) (numbers : List ℕ) (h : Rations (length 
       )
 
   pub forced-end : (j : ℕ) → j ≡ n → sum j (forcedAt marks numbers) ≡ forced (demandsFrom (length marks) n numbers) (marked marks)
-  unfolding forced demandsFrom
+  unfolding forced
   forced-end j e =
+      let ds = demandsFrom (length marks) n numbers in
       ap (λ i. sum i (forcedAt marks numbers)) e
-      ∙ sym (sum-map (λ d. d .volume - outside (d .window) (marked marks)) noDemand (demandsFrom (length marks) n numbers)
-      ∙ ap (λ i. sum i (λ j. getD (demandsFrom (length marks) n numbers) j noDemand .volume - outside (getD (demandsFrom (length marks) n numbers) j noDemand .window) (marked marks))) (length-tab n (demandAt (length marks) numbers))
-      ∙ sum-cong (λ j l. ap (λ d. d .volume - outside (d .window) (marked marks)) (getD-tab n (demandAt (length marks) numbers) noDemand j l)))
+      ∙ sym (sum-map (λ d. d .volume - outside (d .window) (marked marks)) noDemand ds
+      ∙ ap (λ i. sum i (λ j. volumeOf ds j - outside (windowOf ds j) (marked marks))) (length-demandsFrom (length marks) n numbers)
+      ∙ sum-cong (λ j l. ap (λ d. d .volume - outside (d .window) (marked marks)) (demandsFrom-at (length marks) n numbers j l)))
 
 pub forced-next : (f : ℕ → ℕ) (j s r : ℕ) → s ≡ sum j f → r ≡ f j → s + r ≡ sum (j + 1) f
 forced-next f j s r p q = omega (arith, sum-next j f)

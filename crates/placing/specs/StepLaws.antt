@@ -10,11 +10,11 @@ use lib.ListN.{length, getD, set, length-set}
 use lib.Seq.{getD-set-same, getD-set-other, set-getD}
 use borrow.Author.Tests.{eq-eqb, ne-eqb}
 use Rattle.grid.specs.Grid.{at, load}
-use Rattle.grid.specs.Relief.{width, Lowered, Raised}
-use Rattle.grid.specs.Meaning.{State, put}
-use Rattle.grid.specs.MeaningLaws.{count-width}
-use Rattle.grid.specs.StateLaws.{state-placing, state-within, state-lower, state-raise, lowered-state, lowered-kept, lowered-none}
-use Rattle.grid.specs.RaiseLaws.{raised-state, raised-kept, raised-none}
+use Rattle.loads.specs.Relief.{width, Lowered, Raised}
+use Rattle.loads.specs.Meaning.{State, put}
+use Rattle.loads.specs.MeaningLaws.{count-width}
+use Rattle.loads.specs.StateLaws.{state-placing, state-within, state-lower, state-raise, lowered-state, lowered-kept, lowered-none}
+use Rattle.loads.specs.RaiseLaws.{raised-state, raised-kept, raised-none}
 use Rattle.common.specs.Tests.{false-of-not-true}
 use Rattle.placing.specs.Schedules.{Demand, Windows, Sound, load as loadOf, feasible}
 use Rattle.placing.specs.FeasibleLaws.{feasible-sound, sound-feasible}

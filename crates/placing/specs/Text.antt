@@ -1,7 +1,7 @@
 -- Quoted text as bytes, for tables of days. Assumes nothing.
 use mathlib.Core.List.{List, [], _∷_, _++_}
 use Prim.Native.Nat.{ℕ}
-use Prim.Native.Char.{Char, code}
+use Prim.Native.Char.{code}
 use Prim.Native.String.{String, [] as nil, _∷_ as cons}
 use Rattle.common.specs.Lists.{flatMap}
 use Rattle.sheet.specs.Limits.{newline}

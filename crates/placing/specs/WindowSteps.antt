@@ -1,26 +1,24 @@
 -- The steps of the loop that writes windows into words, and what the bytes of all volumes are. Assumes nothing.
-use mathlib.Core.Path.{_≡_, refl, sym, ap, subst, _∙_}
-use mathlib.Core.Logic.{_≢_, _⊎_, inl, inr}
+use mathlib.Core.Path.{_≡_, refl, sym, ap, _∙_}
+use mathlib.Core.Logic.{_≢_}
 use mathlib.Core.Bool.{Bool, true, false, _&&_}
-use mathlib.Core.List.{List, [], _∷_}
-use Prim.Native.Nat.{ℕ, zero, suc, _+_, _-_, _*_, _/_, _%_, _^_, _≤_, _<_}
-use native.Mathlib.Nat.{eq-or-lt-of-le, le-of-suc-le-suc, pow-succ', div-eq-of-lt, add-zero}
-use native.Mathlib.Decide.{ℕ-discrete, decLt}
+use mathlib.Core.List.{List}
+use Prim.Native.Nat.{ℕ, suc, _+_, _-_, _^_, _≤_, _<_}
+use native.Mathlib.Nat.{pow-succ', div-eq-of-lt, add-zero}
+use native.Mathlib.Decide.{ℕ-discrete}
 use native.Mathlib.Numerals.{add-one}
 use native.Mathlib.Omega.{arith}
 use lib.Dec.{leb, ltb}
 use lib.ListN.{length, getD, set, replicate, length-set, length-replicate}
-use lib.Pow.{pow-pos}
 use lib.Seq.{getD-set-same, getD-set-other}
-use borrow.Author.Tests.{le-leb, lt-leb, leb-true, leb-false, lt-ltb, le-ltb, ltb-true, ltb-false}
+use borrow.Author.Tests.{le-leb, lt-leb, leb-true, lt-ltb, le-ltb, ltb-true, ltb-false}
 use Rattle.common.specs.Bits.{bit, add-same, add-other}
 use Rattle.sheet.specs.Limits.{maxSlots, maxRations}
 use Rattle.theory.specs.SumsOver.{one, pick}
 use Rattle.placing.specs.Slots.{has, window}
-use Rattle.placing.specs.Schedules.{Demand, noDemand, windowOf, volumeOf}
-use Rattle.placing.specs.Rations.{releaseAt, deadlineAt, volumeAt, demandAt, demandsFrom, RationAt, Rations}
+use Rattle.placing.specs.Rations.{releaseAt, deadlineAt, volumeAt, demandsFrom, Rations}
 use Rattle.placing.specs.Words.{WindowWords, VolumeBytes, inWindow, CanMark, Marked}
-use Rattle.placing.specs.Tabulate.{length-tab, getD-tab}
+use Rattle.placing.specs.RationLaws.{length-demandsFrom, windowOf-demandsFrom, volumeOf-demandsFrom}
 use Rattle.placing.specs.FillLaws.{getD-zeros, FilledTo}
 use Rattle.placing.specs.WindowLaws.{has-window}
 
@@ -165,34 +163,27 @@ module _ (slots n : ℕ) (numbers : List ℕ) (h : Rations slots n numbers) wher
         at k t (no n) p = other t k n (inWindow (releaseAt numbers j) (deadlineAt numbers j) t) ∙ w .window k t (omega arith)
 
   pub windows-end : (j : ℕ) → j ≡ n → (W : List ℕ) → WindowsTo slots numbers j W → WindowWords slots (demandsFrom slots n numbers) W
-  unfolding demandsFrom
   windows-end j e W w =
-      let c = length-tab n (demandAt slots numbers) in
+      let c = length-demandsFrom slots n numbers in
       record {
         long = w .long;
         few = λ t. omega (arith, w .few t, ap (λ k. 2 ^ k) (e ∙ sym c));
         past = w .past;
         window = λ k t l m.
             let p : k < n = rw c at l in
-            ap one (ap (λ d. has (d .window) t) (getD-tab n (demandAt slots numbers) noDemand k p)
-            ∙ has-window slots (releaseAt numbers k) (deadlineAt numbers k) t m)
+            ap one (ap (λ x. has x t) (windowOf-demandsFrom slots n numbers k p) ∙ has-window slots (releaseAt numbers k) (deadlineAt numbers k) t m)
             ∙ sym (w .window k t (omega arith));
       }
 
--- Volumes -----------------------------------------------------------------------
-
-module _ (slots n : ℕ) (numbers : List ℕ) (h : Rations slots n numbers) where
-  pub volume-small : (j : ℕ) → j < n → volumeAt numbers j ≤ maxSlots
-  volume-small j l = let r = h .each j l in omega (arith, r .volume, r .deadline, r .release, h .short)
+  -- Volumes -----------------------------------------------------------------------
 
   pub volumes-end : (j : ℕ) → j ≡ n → (N : List ℕ) → FilledTo maxRations (volumeAt numbers) j N → VolumeBytes (demandsFrom slots n numbers) N
-  unfolding demandsFrom
   volumes-end j e N v =
-      let c = length-tab n (demandAt slots numbers) in
+      let c = length-demandsFrom slots n numbers in
       record {
         long = v .long;
         volume = λ k l.
             let p : k < n = rw c at l in
-            v .filled k (omega arith) ∙ sym (ap (λ d. d .volume) (getD-tab n (demandAt slots numbers) noDemand k p));
+            v .filled k (omega arith) ∙ sym (volumeOf-demandsFrom slots n numbers k p);
         past = λ k l. v .past k (omega arith);
       }

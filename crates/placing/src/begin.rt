@@ -2,8 +2,8 @@
 ghost use mathlib.Core.Path.{_≡_};
 ghost use Prim.Native.Nat.{_≤_};
 ghost use Rattle.placing.specs.Represents.{CanBegin, Begun};
-use grid::first;
-use grid::relief;
+use loads::first;
+use loads::relief;
 
 // Places every ration within the highs, and says whether that can be done. Bit j of `windows[t]` says that slot t is in the window of ration j,
 // `volumes[j]` in how many slots it is to be fed. Where it can't be done, the marks are left on the slots contained in every set of greatest shortfall. A

@@ -44,8 +44,8 @@ pub fn is_feasible(
     requires { ⌜ CanAsk slots n (now numbers) (now low) (now high) ⌝ }
     ensures { λ r. ⌜ r ≡ feasible slots (demandsFrom slots n (now (numbers .entry))) (take slots (now (low .entry))) (take slots (now (high .entry))) ⌝ }
 {
-    let words = windows::windows_of(slots, n, numbers);
-    let volumes = windows::volumes_of(slots, n, numbers);
+    let words = windows::windows_of(n, numbers);
+    let volumes = windows::volumes_of(n, numbers);
     let mut fed = [0u64; 96];
     let mut rest = [0u64; 96];
     let mut spare = [0u8; 96];

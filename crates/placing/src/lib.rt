@@ -6,6 +6,8 @@
 // specs/Theorems.antt; how the words hold a placing is known to this crate alone.
 pub mod begin;
 mod feasibility;
+pub mod feed;
+pub mod held;
 mod marks;
 mod question;
 mod shortfalls;

@@ -2,7 +2,7 @@
 use crate::BoundsAnswer;
 use crate::feasibility;
 ghost use mathlib.Core.Path.{_≡_};
-ghost use Prim.Native.Nat.{ℕ, min, _≤_, _<_};
+ghost use Prim.Native.Nat.{min, _≤_, _<_};
 ghost use lib.Dec.{ltb};
 ghost use lib.ListN.{length, take};
 ghost use Rattle.sheet.specs.Limits.{maxSlots, maxBlowers};

@@ -2,10 +2,9 @@
 use crate::ShortfallAnswer;
 use crate::marks;
 ghost use mathlib.Core.Path.{_≡_};
-ghost use mathlib.Core.List.{List};
-ghost use Prim.Native.Nat.{ℕ, _-_, _*_, _≤_, _<_};
+ghost use Prim.Native.Nat.{_-_, _*_, _≤_, _<_};
 ghost use lib.ListN.{length};
-ghost use lib.IntN.{ℤ, subℕ};
+ghost use lib.IntN.{subℕ};
 ghost use Rattle.sheet.specs.Limits.{maxSlots, maxBlowers, maxRations};
 ghost use Rattle.placing.specs.Slots.{window, outside};
 ghost use Rattle.placing.specs.Shortfall.{forced};

@@ -5,7 +5,7 @@ ghost use Prim.Native.Nat.{_≤_, _+_};
 ghost use lib.Count.{ones};
 ghost use lib.Dec.{leb};
 ghost use Rattle.placing.specs.Represents.{Ready, Idled, Busied};
-use grid::relief;
+use loads::relief;
 
 // Whether the low of a slot with these words is k or more: its rations less the spare.
 fn has_low(fed: u64, rest: u64, spare: u8, k: u8) -> bool

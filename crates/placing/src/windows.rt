@@ -1,7 +1,8 @@
 // Windows in words: a word for each slot, in which bit j says that the slot is in the window of ration j.
 ghost use mathlib.Core.Path.{_≡_};
-ghost use Prim.Native.Nat.{ℕ, _+_, _^_, _≤_, _<_};
+ghost use Prim.Native.Nat.{_+_, _^_, _<_};
 ghost use Rattle.common.specs.Bits.{bit};
+ghost use Rattle.sheet.specs.Limits.{maxSlots};
 ghost use Rattle.placing.specs.Rations.{demandsFrom, Rations};
 ghost use Rattle.placing.specs.Words.{CanMark, Marked, WindowWords, VolumeBytes};
 
@@ -25,10 +26,10 @@ fn mark_window(windows: &mut [u64; 96], j: u32, release: usize, deadline: usize)
     }
 }
 
-// The windows of n rations. `slots` is the day's length; words past it are 0.
-pub fn windows_of(slots: usize, n: usize, numbers: &[u32; 256]) -> [u64; 96]
-    requires { ⌜ Rations slots n (now numbers) ⌝ }
-    ensures { λ r. ⌜ WindowWords slots (demandsFrom slots n (now (numbers .entry))) r ⌝ }
+// The windows of n rations, in a day as long as can be: words past the last deadline are 0.
+pub fn windows_of(n: usize, numbers: &[u32; 256]) -> [u64; 96]
+    requires { ⌜ Rations maxSlots n (now numbers) ⌝ }
+    ensures { λ r. ⌜ WindowWords maxSlots (demandsFrom maxSlots n (now (numbers .entry))) r ⌝ }
 {
     let mut windows = [0u64; 96];
     let mut j = 0;
@@ -46,9 +47,9 @@ pub fn windows_of(slots: usize, n: usize, numbers: &[u32; 256]) -> [u64; 96]
 }
 
 // The volumes of n rations, 0 past the last.
-pub fn volumes_of(slots: usize, n: usize, numbers: &[u32; 256]) -> [u8; 64]
-    requires { ⌜ Rations slots n (now numbers) ⌝ }
-    ensures { λ r. ⌜ VolumeBytes (demandsFrom slots n (now (numbers .entry))) r ⌝ }
+pub fn volumes_of(n: usize, numbers: &[u32; 256]) -> [u8; 64]
+    requires { ⌜ Rations maxSlots n (now numbers) ⌝ }
+    ensures { λ r. ⌜ VolumeBytes (demandsFrom maxSlots n (now (numbers .entry))) r ⌝ }
 {
     let mut volumes = [0u8; 64];
     let mut j = 0;

@@ -1,10 +1,9 @@
 // A tank looked up: `F length`, and the bytes of its line.
-use crate::output;
 
 pub fn answer(sheet: &[u8], tank: u32) {
     let part = sheet::find(sheet, tank);
     io::write_all(1, b"F");
-    output::size(part.len());
-    output::end_line();
+    cases::size(part.len());
+    cases::end_line();
     io::write_all(1, part);
 }

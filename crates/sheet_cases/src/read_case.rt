@@ -1,5 +1,4 @@
 // A sheet read: `R number line` and, where it is accepted, its numbers; then, on a line of its own, the sheet written back.
-use crate::output;
 
 // 1 where both hold the same bytes, else 0.
 fn same(a: &[u8], b: &[u8]) -> u32 {
@@ -28,11 +27,11 @@ fn write_back(
 ) {
     let written = sheet::write(slots, blowers, wake, rations, numbers, buffer);
     io::write_all(1, b"W");
-    output::word(written.number);
-    output::word(written.line);
-    output::size(written.length);
-    output::word(same(sheet, buffer));
-    output::end_line();
+    cases::word(written.number);
+    cases::word(written.line);
+    cases::size(written.length);
+    cases::word(same(sheet, buffer));
+    cases::end_line();
 }
 
 // The rest of an accepted sheet's line, and the sheet written back.
@@ -49,12 +48,12 @@ fn accepted(
     if room.len() < length {
         return;
     }
-    output::word(slots);
-    output::word(blowers);
-    output::word(wake);
-    output::word(rations);
-    output::words(numbers);
-    output::end_line();
+    cases::word(slots);
+    cases::word(blowers);
+    cases::word(wake);
+    cases::word(rations);
+    cases::words(numbers);
+    cases::end_line();
     write_back(
         sheet,
         slots,
@@ -78,10 +77,10 @@ fn first(numbers: &[u32], rations: u32) -> &[u32] {
 pub fn answer(sheet: &[u8]) {
     let r = sheet::read(sheet);
     io::write_all(1, b"R");
-    output::word(r.number);
-    output::word(r.line);
+    cases::word(r.number);
+    cases::word(r.line);
     if r.number != 0 {
-        output::end_line();
+        cases::end_line();
         return;
     }
     let numbers = r.numbers;

@@ -2,9 +2,10 @@
 //! the digest of the listing and that of the placing buffer. The payload is a sheet.
 
 use super::{digest, lent_buffer, Case};
+use crate::damage::damaged_sheet;
 use crate::draws::Draws;
 use crate::generate::{
-    any_sheet, damaged_sheet, full_sheet, held_full_sheet, tight_sheet, Sizes, FULL, MIDDLE, SMALL,
+    any_sheet, full_sheet, held_full_sheet, tight_sheet, Sizes, FULL, MIDDLE, SMALL,
 };
 use crate::listing::{plan, PLACING_BUFFER, PLAN_BUFFER};
 

@@ -7,10 +7,13 @@ use Rattle.sheet_cases.proofs.main.Statement.{statement}
 use Rattle.sheet_cases.proofs.main.Tie as tie
 
 abbrev Inv-loop : tie.InvT-loop
-Inv-loop room₀ cases₀ room cases = 65541 ≡ length room
+Inv-loop room₀ left₀ room left = 66000 ≡ length room
 
 abbrev μ-loop : tie.MeasureT-loop
-μ-loop room₀ cases₀ room cases = cases
+μ-loop room₀ left₀ room left = left
+
+room-requires : tie.Need-room-requires Inv-loop μ-loop
+room-requires c κs = search needs
 
 loop-holds : tie.Need-loop-holds Inv-loop μ-loop
 loop-holds c = search needs
@@ -21,8 +24,8 @@ slice-aggregate-answer-next c = search needs
 answer-next-requires : tie.Need-answer-next-requires Inv-loop μ-loop
 answer-next-requires c κs = search needs
 
-sub-cases : tie.Need-sub-cases Inv-loop μ-loop
-sub-cases c = search needs
+sub-left : tie.Need-sub-left Inv-loop μ-loop
+sub-left c = search needs
 
 loop-less : tie.Need-loop-less Inv-loop μ-loop
 loop-less c = search needs
@@ -42,10 +45,11 @@ main-spec =
     (tie.spec
     Inv-loop
     μ-loop
+    room-requires
     loop-holds
     slice-aggregate-answer-next
     answer-next-requires
-    sub-cases
+    sub-left
     loop-less
     loop-again
     returns

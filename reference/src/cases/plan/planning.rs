@@ -5,10 +5,9 @@ use crate::cases::sheets::{
     beyond_days, document_days, full_day, limit_days, refused_by, settled_days, text,
     too_long_sheet,
 };
+use crate::damage::damaged_sheet;
 use crate::draws::Draws;
-use crate::generate::{
-    damaged_sheet, full_sheet, held_full_sheet, held_sheet, tight_sheet, MIDDLE, SMALL,
-};
+use crate::generate::{full_sheet, held_full_sheet, held_sheet, tight_sheet, MIDDLE, SMALL};
 use crate::listing::{PLACING_BUFFER, PLAN_BUFFER};
 
 pub fn cases() -> Vec<Case> {

@@ -3,8 +3,9 @@
 use super::values::value_sheets;
 use super::{find_case, read_case, write_case, Case};
 use crate::cases::sheets::{first_day, full_day, held_day, text, with};
+use crate::damage::{damage, damaged_sheet};
 use crate::draws::Draws;
-use crate::generate::{any_sheet, damage, damaged_sheet, tight_sheet, FULL, SMALL};
+use crate::generate::{any_sheet, tight_sheet, FULL, SMALL};
 use crate::sheet::LINE;
 
 pub fn find_cases() -> Vec<Case> {

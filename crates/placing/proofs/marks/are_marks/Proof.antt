@@ -1,7 +1,7 @@
 -- `placing::marks::are_marks` meets its contract: what the marks from one on say of all, they say of all marks. Assumes nothing.
 use mathlib.Core.Path.{_≡_, refl, sym, _∙_}
 use mathlib.Core.List.{map}
-use Prim.Native.Nat.{_+_, _-_, _≤_}
+use Prim.Native.Nat.{_-_, _≤_}
 use lib.ListN.{length, drop}
 use Rattle.common.specs.Lists.{every}
 use Rattle.placing.specs.Calls.{isMark}

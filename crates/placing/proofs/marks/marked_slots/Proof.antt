@@ -1,7 +1,7 @@
 -- `placing::marks::marked_slots` meets its contract: after t slots it has the sum of their marks. Assumes nothing.
 use mathlib.Core.Path.{_≡_, sym, _∙_}
 use mathlib.Core.Logic.{⊎-elim}
-use Prim.Native.Nat.{_+_, _-_, _≤_}
+use Prim.Native.Nat.{_-_, _≤_}
 use lib.ListN.{length}
 use Rattle.theory.specs.Sums.{sum, sum-none}
 use Rattle.placing.specs.MarkSteps.{isMarked, count-hit, count-miss, count-end}

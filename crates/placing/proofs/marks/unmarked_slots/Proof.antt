@@ -1,8 +1,7 @@
 -- `placing::marks::unmarked_slots` meets its contract: after t slots it has the sum over those of the window that are not marked. Assumes nothing.
-use mathlib.Core.Path.{_≡_, sym, _∙_}
+use mathlib.Core.Path.{_≡_, _∙_}
 use mathlib.Core.Logic.{⊎-elim}
 use Prim.Native.Nat.{_+_, _-_, _≤_}
-use lib.ListN.{length}
 use Rattle.theory.specs.Sums.{sum}
 use Rattle.placing.specs.MarkSteps.{isFree, free-begin, free-hit, free-miss, free-end}
 use native.Mathlib.Omega.{arith}

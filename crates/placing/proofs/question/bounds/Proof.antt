@@ -1,7 +1,8 @@
 -- `placing::question::bounds` meets its contract: the sheet is refused, a list is refused, a low is above its high, or the answer is that of the search. Assumes nothing.
 use mathlib.Core.Path.{sym, _∙_}
 use borrow.Author.Tests.{not-true, not-false}
-use Rattle.placing.specs.BoundsSteps.{bounds-refused, highs-cut, bounds-unequal, lows-short, highs-short, high-long, bounds-disordered, lows-small, bounds-can, bounds-answer}
+use Rattle.placing.specs.ReadLaws.{read-accepted}
+use Rattle.placing.specs.BoundsSteps.{bounds-refused, bounds-unequal, lows-short, highs-short, high-long, bounds-disordered, lows-small, bounds-can, bounds-answer}
 use borrow.Author.Needs.{needs}
 use Rattle.placing.proofs.question.bounds.Statement.{statement}
 use Rattle.placing.proofs.question.bounds.Tie as tie
@@ -10,7 +11,7 @@ read-requires : tie.Need-read-requires
 read-requires c κs = search needs
 
 returns : tie.Need-returns
-returns c = bounds-refused (c .before .before .before .before .before .before .args .b .now) (c .before .before .before .before .before .before .args .lows .now) (c .before .before .before .before .before .before .args .highs .now) (c .before .before .read .result) (c .before .before .read .ensures) (c .if1 .taken)
+returns c = bounds-refused _ _ _ _ (c .before .before .read .ensures) (c .if1 .taken)
 
 cast-slots : tie.Need-cast-slots
 cast-slots c = search needs
@@ -19,28 +20,46 @@ is-faulty-requires : tie.Need-is-faulty-requires
 is-faulty-requires c κs = search needs
 
 returns-2 : tie.Need-returns-2
-returns-2 c = bounds-unequal (c .before .before .before .before .before .before .before .before .before .args .b .now) (c .before .before .before .before .before .before .before .before .before .args .lows .now) (c .before .before .before .before .before .before .before .before .before .args .highs .now) (c .before .before .before .before .before .read .result) (c .before .before .before .before .before .read .ensures) (c .before .before .before .if1 .left) (sym (c .if2 .taken) ∙ c .before .is-faulty .ensures)
+returns-2 c = bounds-unequal _ _ _ _ (c .before .before .before .before .before .read .ensures) (c .before .before .before .if1 .left) (sym (c .if2 .taken) ∙ c .before .is-faulty .ensures)
 
 cut-highs-requires : tie.Need-cut-highs-requires
-cut-highs-requires c κs = (highs-cut (c .before .before .before .before .before .before .before .before .before .args .b .now) (c .before .before .before .before .before .before .before .before .before .args .lows .now) (c .before .before .before .before .before .before .before .before .before .args .highs .now) (c .before .before .before .before .before .read .result) (c .before .before .before .before .before .read .ensures) (c .before .before .before .if1 .left), highs-short (c .before .before .before .before .before .before .before .before .before .args .b .now) (c .before .before .before .before .before .before .before .before .before .args .lows .now) (c .before .before .before .before .before .before .before .before .before .args .highs .now) (c .before .before .before .before .before .read .result) (c .before .before .before .before .before .read .ensures) (c .before .before .before .if1 .left) (sym (c .if2 .left) ∙ c .before .is-faulty .ensures))
+cut-highs-requires c κs = (
+  read-accepted _ _ (c .before .before .before .before .before .read .ensures) (c .before .before .before .if1 .left) .blown,
+  highs-short _ _ _ _ (c .before .before .before .before .before .read .ensures) (c .before .before .before .if1 .left) (sym (c .if2 .left) ∙ c .before .is-faulty .ensures),
+)
 
 are-ordered-requires : tie.Need-are-ordered-requires
-are-ordered-requires c κs = (lows-short (c .before .before .before .before .before .before .before .before .before .before .before .args .b .now) (c .before .before .before .before .before .before .before .before .before .before .before .args .lows .now) (c .before .before .before .before .before .before .before .before .before .before .before .args .highs .now) (c .before .before .before .before .before .before .before .read .result) (c .before .before .before .before .before .before .before .read .ensures) (c .before .before .before .before .before .if1 .left) (sym (c .before .before .if2 .left) ∙ c .before .before .before .is-faulty .ensures), high-long (c .before .before .before .before .before .before .before .before .before .before .before .args .b .now) (c .before .before .before .before .before .before .before .before .before .before .before .args .lows .now) (c .before .before .before .before .before .before .before .before .before .before .before .args .highs .now) (c .before .before .before .before .before .before .before .read .result) (c .before .before .before .before .before .before .before .read .ensures) (c .before .before .before .before .before .if1 .left) (sym (c .before .before .if2 .left) ∙ c .before .before .before .is-faulty .ensures) _ (c .before .cut-highs .ensures))
+are-ordered-requires c κs = (
+  lows-short _ _ _ _ (c .before .before .before .before .before .before .before .read .ensures) (c .before .before .before .before .before .if1 .left) (sym (c .before .before .if2 .left) ∙ c .before .before .before .is-faulty .ensures),
+  high-long _ _ _ _ (c .before .before .before .before .before .before .before .read .ensures) (c .before .before .before .before .before .if1 .left) (sym (c .before .before .if2 .left) ∙ c .before .before .before .is-faulty .ensures)
+      _ (c .before .cut-highs .ensures),
+)
 
 returns-3 : tie.Need-returns-3
-returns-3 c = bounds-disordered (c .before .before .before .before .before .before .before .before .before .before .before .before .before .args .b .now) (c .before .before .before .before .before .before .before .before .before .before .before .before .before .args .lows .now) (c .before .before .before .before .before .before .before .before .before .before .before .before .before .args .highs .now) (c .before .before .before .before .before .before .before .before .before .read .result) (c .before .before .before .before .before .before .before .before .before .read .ensures) (c .before .before .before .before .before .before .before .if1 .left) (sym (c .before .before .before .before .if2 .left) ∙ c .before .before .before .before .before .is-faulty .ensures) _ (c .before .before .before .cut-highs .ensures) (sym (not-true _ (c .if3 .taken)) ∙ c .before .are-ordered .ensures)
+returns-3 c =
+    bounds-disordered _ _ _ _ (c .before .before .before .before .before .before .before .before .before .read .ensures) (c .before .before .before .before .before .before .before .if1 .left) (sym (c .before .before .before .before .if2 .left) ∙ c .before .before .before .before .before .is-faulty .ensures)
+    _ (c .before .before .before .cut-highs .ensures)
+    (sym (not-true _ (c .if3 .taken)) ∙ c .before .are-ordered .ensures)
 
 low-bytes-requires : tie.Need-low-bytes-requires
-low-bytes-requires c κs = lows-small (c .before .before .before .before .before .before .before .before .before .before .before .before .before .args .b .now) (c .before .before .before .before .before .before .before .before .before .before .before .before .before .args .lows .now) (c .before .before .before .before .before .before .before .before .before .before .before .before .before .args .highs .now) (c .before .before .before .before .before .before .before .before .before .read .result) (c .before .before .before .before .before .before .before .before .before .read .ensures) (c .before .before .before .before .before .before .before .if1 .left) (sym (c .before .before .before .before .if2 .left) ∙ c .before .before .before .before .before .is-faulty .ensures) _ (c .before .before .before .cut-highs .ensures) (sym (not-false _ (c .if3 .left)) ∙ c .before .are-ordered .ensures)
+low-bytes-requires c κs =
+    lows-small _ _ _ _ (c .before .before .before .before .before .before .before .before .before .read .ensures) (c .before .before .before .before .before .before .before .if1 .left) (sym (c .before .before .before .before .if2 .left) ∙ c .before .before .before .before .before .is-faulty .ensures)
+    _ (c .before .before .before .cut-highs .ensures) (sym (not-false _ (c .if3 .left)) ∙ c .before .are-ordered .ensures)
 
 cast-is-feasible : tie.Need-cast-is-feasible
 cast-is-feasible c = search needs
 
 is-feasible-requires : tie.Need-is-feasible-requires
-is-feasible-requires c κs = bounds-can (c .before .before .before .before .before .before .before .before .before .before .before .before .before .before .before .before .before .before .before .args .b .now) (c .before .before .before .before .before .before .before .before .before .before .before .before .before .before .before .before .before .before .before .args .lows .now) (c .before .before .before .before .before .before .before .before .before .before .before .before .before .before .before .before .before .before .before .args .highs .now) (c .before .before .before .before .before .before .before .before .before .before .before .before .before .before .before .read .result) (c .before .before .before .before .before .before .before .before .before .before .before .before .before .before .before .read .ensures) (c .before .before .before .before .before .before .before .before .before .before .before .before .before .if1 .left) (sym (c .before .before .before .before .before .before .before .before .before .before .if2 .left) ∙ c .before .before .before .before .before .before .before .before .before .before .before .is-faulty .ensures) _ (c .before .before .before .before .before .before .before .before .before .cut-highs .ensures) (sym (not-false _ (c .before .before .before .before .before .before .if3 .left)) ∙ c .before .before .before .before .before .before .before .are-ordered .ensures) _ (c .before .before .before .before .before .low-bytes .ensures)
+is-feasible-requires c κs =
+    bounds-can _ _ _ _ (c .before .before .before .before .before .before .before .before .before .before .before .before .before .before .before .read .ensures) (c .before .before .before .before .before .before .before .before .before .before .before .before .before .if1 .left) (sym (c .before .before .before .before .before .before .before .before .before .before .if2 .left) ∙ c .before .before .before .before .before .before .before .before .before .before .before .is-faulty .ensures)
+    _ (c .before .before .before .before .before .before .before .before .before .cut-highs .ensures) (sym (not-false _ (c .before .before .before .before .before .before .if3 .left)) ∙ c .before .before .before .before .before .before .before .are-ordered .ensures)
+    _ (c .before .before .before .before .before .low-bytes .ensures)
 
 returns-4 : tie.Need-returns-4
-returns-4 c = bounds-answer (c .before .before .before .before .before .before .before .before .before .before .before .before .before .before .before .before .before .before .before .before .args .b .now) (c .before .before .before .before .before .before .before .before .before .before .before .before .before .before .before .before .before .before .before .before .args .lows .now) (c .before .before .before .before .before .before .before .before .before .before .before .before .before .before .before .before .before .before .before .before .args .highs .now) (c .before .before .before .before .before .before .before .before .before .before .before .before .before .before .before .before .read .result) (c .before .before .before .before .before .before .before .before .before .before .before .before .before .before .before .before .read .ensures) (c .before .before .before .before .before .before .before .before .before .before .before .before .before .before .if1 .left) (sym (c .before .before .before .before .before .before .before .before .before .before .before .if2 .left) ∙ c .before .before .before .before .before .before .before .before .before .before .before .before .is-faulty .ensures) _ (c .before .before .before .before .before .before .before .before .before .before .cut-highs .ensures) (sym (not-false _ (c .before .before .before .before .before .before .before .if3 .left)) ∙ c .before .before .before .before .before .before .before .before .are-ordered .ensures) _ (c .before .before .before .before .before .before .low-bytes .ensures) _ (c .is-feasible .ensures)
+returns-4 c =
+    bounds-answer _ _ _ _ (c .before .before .before .before .before .before .before .before .before .before .before .before .before .before .before .before .read .ensures) (c .before .before .before .before .before .before .before .before .before .before .before .before .before .before .if1 .left) (sym (c .before .before .before .before .before .before .before .before .before .before .before .if2 .left) ∙ c .before .before .before .before .before .before .before .before .before .before .before .before .is-faulty .ensures)
+    _ (c .before .before .before .before .before .before .before .before .before .before .cut-highs .ensures) (sym (not-false _ (c .before .before .before .before .before .before .before .if3 .left)) ∙ c .before .before .before .before .before .before .before .before .are-ordered .ensures)
+    _ (c .before .before .before .before .before .before .low-bytes .ensures) _ (c .is-feasible .ensures)
 
 pub bounds-spec : {M : Type 1} → statement M
 bounds-spec =

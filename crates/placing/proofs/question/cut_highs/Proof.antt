@@ -1,5 +1,4 @@
 -- `placing::question::cut_highs` meets its contract: after t slots it has their highs, cut. Assumes nothing.
-use mathlib.Core.Path.{refl}
 use Prim.Native.Nat.{_-_, _≤_}
 use lib.ListN.{length}
 use Rattle.sheet.specs.Limits.{maxSlots}

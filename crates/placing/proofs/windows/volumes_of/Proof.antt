@@ -4,16 +4,17 @@ use Prim.Native.Nat.{_-_, _≤_}
 use Rattle.sheet.specs.Limits.{maxRations}
 use Rattle.placing.specs.Rations.{volumeAt}
 use Rattle.placing.specs.FillLaws.{FilledTo, filled-begin, filled-next}
-use Rattle.placing.specs.WindowSteps.{volume-small, volumes-end}
+use Rattle.placing.specs.RationLaws.{volume-small}
+use Rattle.placing.specs.WindowSteps.{volumes-end}
 use native.Mathlib.Omega.{arith}
 use Rattle.placing.proofs.windows.volumes_of.Statement.{statement}
 use Rattle.placing.proofs.windows.volumes_of.Tie as tie
 
 abbrev Inv-loop : tie.InvT-loop
-Inv-loop slots n numbers volumes₀ j₀ volumes j = (j ≤ n) × FilledTo maxRations (volumeAt numbers) j volumes
+Inv-loop n numbers volumes₀ j₀ volumes j = (j ≤ n) × FilledTo maxRations (volumeAt numbers) j volumes
 
 abbrev μ-loop : tie.MeasureT-loop
-μ-loop slots n numbers volumes₀ j₀ volumes j = n - j
+μ-loop n numbers volumes₀ j₀ volumes j = n - j
 
 loop-holds : tie.Need-loop-holds Inv-loop μ-loop
 loop-holds c = (omega arith, filled-begin maxRations (volumeAt (c .args .numbers .now)))
@@ -31,7 +32,7 @@ element-copy-out-volumes : tie.Need-element-copy-out-volumes Inv-loop μ-loop
 element-copy-out-volumes c = omega arith
 
 cast-volumes : tie.Need-cast-volumes Inv-loop μ-loop
-cast-volumes c = omega (arith, volume-small _ _ _ (c .before .before .before .pre) (c .before .before .loop .j) (omega arith))
+cast-volumes c = omega (arith, volume-small (c .before .before .before .pre) (c .before .before .loop .j) (omega arith))
 
 array-write-volumes : tie.Need-array-write-volumes Inv-loop μ-loop
 array-write-volumes c = omega arith

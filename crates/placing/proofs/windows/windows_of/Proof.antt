@@ -1,18 +1,19 @@
 -- `placing::windows::windows_of` meets its contract: after j rations it has their windows. Assumes nothing.
 use Prim.Native.Nat.{_-_, _≤_}
+use Rattle.sheet.specs.Limits.{maxSlots}
 use Rattle.placing.specs.WindowSteps.{WindowsTo, windows-begin, windows-can, windows-next, windows-end}
 use native.Mathlib.Omega.{arith}
 use Rattle.placing.proofs.windows.windows_of.Statement.{statement}
 use Rattle.placing.proofs.windows.windows_of.Tie as tie
 
 abbrev Inv-loop : tie.InvT-loop
-Inv-loop slots n numbers windows₀ j₀ windows j = (j ≤ n) × WindowsTo slots numbers j windows
+Inv-loop n numbers windows₀ j₀ windows j = (j ≤ n) × WindowsTo maxSlots numbers j windows
 
 abbrev μ-loop : tie.MeasureT-loop
-μ-loop slots n numbers windows₀ j₀ windows j = n - j
+μ-loop n numbers windows₀ j₀ windows j = n - j
 
 loop-holds : tie.Need-loop-holds Inv-loop μ-loop
-loop-holds c = (omega arith, windows-begin _ _)
+loop-holds c = (omega arith, windows-begin maxSlots _)
 
 mul-at : tie.Need-mul-at Inv-loop μ-loop
 mul-at c = omega arith
