@@ -52,7 +52,7 @@ seenAt-seen S t e = ltb-true 0 (at S t) e
 -- ---- sums of bits
 
 -- the ones of a word are its bits below n, where it has no other
-ones-sum : (n w : ℕ) → w < 2 ^ n → ones w ≡ sum n (λ j. bit w j)
+pub ones-sum : (n w : ℕ) → w < 2 ^ n → ones w ≡ sum n (λ j. bit w j)
 unfolding sum ones
 ones-sum zero w h = let z : w ≡ 0 = omega arith in rw z refl
 ones-sum (suc n) w h =

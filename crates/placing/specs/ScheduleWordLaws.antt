@@ -6,13 +6,17 @@ use mathlib.Core.List.{List, []}
 use Prim.Native.Nat.{ℕ, suc, _+_, _^_, _≤_, _<_}
 use native.Mathlib.Nat.{pow-succ', eq-or-lt-of-le}
 use native.Mathlib.Omega.{arith}
+use lib.Count.{ones}
 use lib.ListN.{length, getD}
+use Rattle.theory.specs.Sums.{sum, sum-cong}
 use Rattle.theory.specs.SumsOver.{one, one-inj}
+use Rattle.theory.specs.Placing.{count}
 use Rattle.common.specs.Bits.{bit, bit-none, bit-le, add-same, add-other}
 use Rattle.loads.specs.Meaning.{bitAt}
-use Rattle.loads.specs.MeaningLaws.{one-bitAt}
+use Rattle.loads.specs.MeaningLaws.{one-bitAt, ones-sum}
 use Rattle.placing.specs.Schedules.{Demand, Schedule, Windows, Sound}
-use Rattle.placing.specs.AsFunctions.{listed}
+use Rattle.placing.specs.Schedules.{load as loadOf}
+use Rattle.placing.specs.AsFunctions.{fed, listed, Rows, load-as}
 use Rattle.placing.specs.Tabulate.{tab-unique}
 use Rattle.placing.specs.CellChoice.{RowWord, ScheduleWords, Decided, FedBit}
 
@@ -61,3 +65,10 @@ words-listed {day} {ds} {W} {p} w s h =
     sym (tab-unique [] p (length ds) _ (s .for-each)
     (λ j m. tab-unique false (getD p j []) day (bitAt W j) (s .served j m .same-day ∙ w .all-day j m)
     (λ t l. one-inj (sym (h .rows t l .bits j m) ∙ sym (one-bitAt W j t)))))
+
+-- the ones of a slot's word are the slot's load
+pub words-load : {n d : ℕ} {p : Schedule} {W : List ℕ} → ScheduleWords n d p W → length p ≡ n → Rows d p → (t : ℕ) → t < d → ones (getD W t 0) ≡ getD (loadOf d p) t 0
+unfolding count
+words-load {n} {d} {p} {W} h e rows t l =
+    ones-sum n (getD W t 0) (h .rows t l .few) ∙ sum-cong (λ j m. h .rows t l .bits j m) ∙ ap (λ k. sum k (λ j. one (fed p j t))) (sym e)
+    ∙ sym (load-as p rows t l)

@@ -6,7 +6,7 @@
 mod checks;
 mod fields;
 mod finder;
-mod limits;
+pub mod limits;
 mod lines;
 mod reader;
 mod writer;

@@ -1,0 +1,48 @@
+-- States of stretches, starts and energy. Definitions only. Assumes nothing.
+use mathlib.Core.Bool.{Bool, true, false, _&&_, cond}
+use mathlib.Core.List.{List, [], _∷_, map}
+use Prim.Native.Nat.{ℕ, _+_, _*_}
+use lib.Dec.{leb, eqb}
+use Rattle.common.specs.Lists.{range, sum}
+use Rattle.stretches.specs.Intervals.{Interval, intervals, size}
+
+-- a stretch's state: 2 busy; an idle stretch of at least q slots is off (0), a shorter one on (1); the ends of the day come under this too
+unfoldable pub state : ℕ → Interval → ℕ
+state q v = cond (v .busy) 2 (cond (leb q (size v)) 0 1)
+
+-- One blower -------------------------------------------------------------------
+
+-- of so many slots in one state, those in which the blower is on
+unfoldable pub onIn : (state slots : ℕ) → ℕ
+onIn x n = cond (eqb x 0) 0 n
+
+-- the slots in which a blower with these stretches is on, busy ones included
+unfoldable pub onSlots : ℕ → List Interval → ℕ
+onSlots q vs = sum (map (λ v. onIn (state q v) (size v)) vs)
+
+-- a start: a step from off to on
+unfoldable pub startAt : (before after : ℕ) → ℕ
+startAt before after = cond (eqb before 0 && leb 1 after) 1 0
+
+-- the starts along a list of states, after the state before it
+unfoldable pub startsFrom : ℕ → List ℕ → ℕ
+startsFrom before [] = 0
+startsFrom before (x ∷ xs) = startAt before x + startsFrom x xs
+
+-- blowers are off before slot 1
+unfoldable pub startsOf : ℕ → List Interval → ℕ
+startsOf q vs = startsFrom 0 (map (state q) vs)
+
+-- All blowers ------------------------------------------------------------------
+
+-- the starts of m blowers with these counts
+unfoldable pub starts : ℕ → ℕ → List ℕ → ℕ
+starts m q counts = sum (map (λ k. startsOf q (intervals counts k)) (range 1 m))
+
+-- their on slots
+unfoldable pub on : ℕ → ℕ → List ℕ → ℕ
+on m q counts = sum (map (λ k. onSlots q (intervals counts k)) (range 1 m))
+
+-- energy: the number of on slots, plus q for each start
+unfoldable pub energy : ℕ → ℕ → List ℕ → ℕ
+energy m q counts = on m q counts + q * starts m q counts

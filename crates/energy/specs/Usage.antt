@@ -1,0 +1,26 @@
+-- What the calls answer: on slots and starts of a blower, energy and starts of a day. Assumes nothing.
+use mathlib.Core.Path.{_≡_}
+use mathlib.Core.List.{List}
+use Prim.Native.Nat.{ℕ, _≤_, _<_}
+use lib.ListN.{length}
+use Rattle.stretches.specs.Intervals.{Interval}
+use Rattle.energy.specs.Energy.{onSlots, startsOf, starts, energy}
+use Rattle.energy.specs.declared.BlowerUse.{BlowerUse}
+use Rattle.energy.specs.declared.DayUse.{DayUse}
+
+unfoldable pub blowerUse : ℕ → List Interval → BlowerUse
+blowerUse q vs = record { on = onSlots q vs; starts = startsOf q vs }
+
+unfoldable pub dayUse : ℕ → ℕ → List ℕ → DayUse
+dayUse m q counts = record { energy = energy m q counts; starts = starts m q counts }
+
+-- the counts of a day's slots
+pub record Day (counts : List ℕ) (slots : ℕ) : Type 0 where
+  pub long : length counts ≡ 96
+  pub day : slots ≤ 96
+
+-- the counts of a day's slots, and a sheet's blowers and wake cost
+pub record CanCharge (counts : List ℕ) (slots blowers wake : ℕ) : Type 0 where
+  pub counted : Day counts slots
+  pub few : blowers ≤ 8
+  pub cheap : wake ≤ 200

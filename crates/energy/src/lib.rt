@@ -1,0 +1,20 @@
+// Energy: which stretches are off, the starts, and the energy of a day.
+//
+// An idle stretch of at least q slots is off, a shorter one on. A blower's slots are passed once, from stretch to stretch: the on slots and the steps
+// from off to on add up, and the energy is their number with q for each start.
+mod usage;
+
+pub use usage::day_use;
+pub use usage::stretch_state;
+
+// A blower's on slots, and its starts.
+pub struct BlowerUse {
+    pub on: usize,
+    pub starts: usize,
+}
+
+// The energy of a day, and the starts of all blowers.
+pub struct DayUse {
+    pub energy: u32,
+    pub starts: u32,
+}

@@ -1,0 +1,134 @@
+-- How a plan's listing is put: its word, the stretch lines, the feed lines, then the head line. Assumes nothing.
+use mathlib.Core.Path.{_≡_, refl, sym, ap, _∙_}
+use mathlib.Core.List.{List, [], _∷_, _++_}
+use Prim.Native.Nat.{ℕ, suc, _+_, _*_, _^_, min, _≤_, _<_}
+use native.Mathlib.Nat.{mul-le-mul}
+use native.Mathlib.Omega.{arith}
+use lib.Count.{ones}
+use lib.ListN.{length, getD, take, length-append, length-take}
+use Rattle.sheet.specs.Limits.{lineBytes, fields, maxSlots, maxBlowers, maxWake, maxRations}
+use Rattle.sheet.specs.Sheet.{writeLine}
+use Rattle.sheet.specs.Parts.{putAt}
+use Rattle.sheet.specs.PutLaws.{putAt-append, length-putAt}
+use Rattle.energy.specs.Energy.{starts, energy}
+use Rattle.energy.specs.Usage.{dayUse, Day, CanCharge}
+use Rattle.energy.specs.declared.DayUse.{DayUse}
+use Rattle.listing.specs.Sizes.{wordBytes, planBytes}
+use Rattle.listing.specs.Lines.{Line, line, Plan, stretchLines, feedLines, planLines}
+use Rattle.listing.specs.Text.{writeLines, planWord, planText}
+use Rattle.listing.specs.Inputs.{tanksOf, placingOf}
+use Rattle.listing.specs.Putting.{Put, length-writeLines, writeLines-append}
+use Rattle.listing.specs.StretchSteps.{CanPutStretches}
+use Rattle.listing.specs.FeedSteps.{CanPutFeedings}
+use Rattle.listing.specs.Opening.{Written, listing-written, listing-length}
+use Rattle.listing.specs.LengthLaws.{length-stretchLines, length-feedLines-words}
+
+-- the plan that the arrays stand for; past the sheet's rations the words have no bits
+unfoldable pub planOf : (slots blowers wake : ℕ) → (counts numbers words : List ℕ) → Plan
+planOf slots blowers wake counts numbers words =
+    record {
+      slots = slots;
+      blowers = blowers;
+      wake = wake;
+      tanks = tanksOf maxRations numbers;
+      counts = take slots counts;
+      placing = placingOf slots maxRations words;
+    }
+
+pub record CanPutPlan (out : List ℕ) (slots blowers wake : ℕ) (counts numbers words : List ℕ) : Type 0 where
+  pub counted : Day counts slots
+  pub few : blowers ≤ maxBlowers
+  pub cheap : wake ≤ maxWake
+  pub tanks : length numbers ≡ fields * maxRations
+  pub long : length words ≡ 96
+  pub words-fit : (t : ℕ) → t < slots → getD words t 0 < 2 ^ 64
+  pub loads : (t : ℕ) → t < slots → ones (getD words t 0) ≤ maxBlowers
+  pub room : planBytes ≤ length out
+
+module _ (slots m q : ℕ) (counts numbers words old : List ℕ) (can : CanPutPlan old slots m q counts numbers words) where
+  stretches-few : length (stretchLines m q (take slots counts)) ≤ maxSlots * maxBlowers
+  stretches-few =
+      omega (
+        arith,
+        length-stretchLines m q (take slots counts),
+        mul-le-mul (can .few) (day-le (length (take slots counts)) (length-take slots counts)),
+      )
+    where
+      day-le : (n : ℕ) → n ≡ min slots (length counts) → n ≤ maxSlots
+      day-le n e = omega (arith, can .counted .day)
+
+  feedings-few : length (feedLines slots (tanksOf maxRations numbers) (placingOf slots maxRations words)) ≤ maxSlots * maxBlowers
+  feedings-few =
+      omega (
+        arith,
+        length-feedLines-words slots maxRations maxBlowers numbers words (omega (arith, can .counted .day, can .long)) (λ t l. (can .words-fit t l, can .loads t l)),
+        can .counted .day,
+      )
+
+  pub plan-can-charge : CanCharge counts slots m q
+  plan-can-charge = record { counted = can .counted; few = can .few; cheap = can .cheap }
+
+  module _ (o₁ : List ℕ) (e₁ : o₁ ≡ putAt 0 planWord old) where
+    same₁ : length o₁ ≡ length old
+    same₁ = ap length e₁ ∙ length-putAt 0 planWord old (omega (arith, can .room))
+
+    pub plan-can-stretches : CanPutStretches o₁ (wordBytes + lineBytes) slots m q counts
+    plan-can-stretches = record { counted = can .counted; few = can .few; room = omega (arith, stretches-few, same₁, can .room) }
+
+    module _ (o₂ : List ℕ) (s : ℕ) (p₂ : Put (stretchLines m q (take slots counts)) (wordBytes + lineBytes) o₁ o₂ s) where
+      same₂ : length o₂ ≡ length old
+      same₂ =
+          ap length (p₂ .text)
+          ∙ length-putAt (wordBytes + lineBytes) (writeLines (stretchLines m q (take slots counts))) o₁
+          (omega (arith, length-writeLines (stretchLines m q (take slots counts)), stretches-few, same₁, can .room))
+          ∙ same₁
+
+      pub plan-stretches-few : s ≤ maxSlots * maxBlowers
+      plan-stretches-few = omega (arith, p₂ .number, stretches-few)
+
+      pub plan-can-feedings : CanPutFeedings o₂ ((wordBytes + lineBytes) + lineBytes * s) slots numbers words
+      plan-can-feedings =
+          record {
+            day = can .counted .day;
+            tanks = can .tanks;
+            long = can .long;
+            room = omega (arith, plan-stretches-few, feedings-few, same₂, can .room);
+          }
+
+      module _ (o₃ : List ℕ) (f : ℕ) (p₃ : Put (feedLines slots (tanksOf maxRations numbers) (placingOf slots maxRations words)) ((wordBytes + lineBytes) + lineBytes * s) o₂ o₃ f) where
+        pub plan-feedings-few : f ≤ maxSlots * maxBlowers
+        plan-feedings-few = omega (arith, p₃ .number, feedings-few)
+
+        pub plan-room : wordBytes + lineBytes ≤ length o₃
+        plan-room =
+            omega (
+              arith,
+              ap length (p₃ .text)
+                  ∙ length-putAt ((wordBytes + lineBytes) + lineBytes * s) (writeLines (feedLines slots (tanksOf maxRations numbers) (placingOf slots maxRations words))) o₂
+                  (omega (arith, length-writeLines (feedLines slots (tanksOf maxRations numbers) (placingOf slots maxRations words)), plan-stretches-few, feedings-few, same₂, can .room)),
+              same₂,
+              can .room,
+            )
+
+        -- both kinds of lines side by side
+        lines-put : o₃ ≡ putAt (wordBytes + lineBytes) (writeLines (stretchLines m q (take slots counts) ++ feedLines slots (tanksOf maxRations numbers) (placingOf slots maxRations words))) o₁
+        lines-put =
+            p₃ .text
+            ∙ ap (putAt ((wordBytes + lineBytes) + lineBytes * s) (writeLines (feedLines slots (tanksOf maxRations numbers) (placingOf slots maxRations words)))) (p₂ .text)
+            ∙ putAt-append (wordBytes + lineBytes) (lineBytes * s) (writeLines (stretchLines m q (take slots counts))) (writeLines (feedLines slots (tanksOf maxRations numbers) (placingOf slots maxRations words))) o₁
+            (length-writeLines (stretchLines m q (take slots counts)) ∙ ap (λ k. lineBytes * k) (sym (p₂ .number))) (omega (arith, plan-stretches-few, same₁, can .room))
+            ∙ ap (λ t. putAt (wordBytes + lineBytes) t o₁) (sym (writeLines-append (stretchLines m q (take slots counts)) (feedLines slots (tanksOf maxRations numbers) (placingOf slots maxRations words))))
+
+        lines-number : length (stretchLines m q (take slots counts) ++ feedLines slots (tanksOf maxRations numbers) (placingOf slots maxRations words)) ≡ s + f
+        lines-number = length-append (stretchLines m q (take slots counts)) (feedLines slots (tanksOf maxRations numbers) (placingOf slots maxRations words)) ∙ omega (arith, p₂ .number, p₃ .number)
+
+        pub plan-written : (d : DayUse) (o₄ : List ℕ) → d ≡ dayUse m q (take slots counts) → o₄ ≡ putAt wordBytes (writeLine (d .energy) (d .starts) s f) o₃
+            → Written (planText (planOf slots m q counts numbers words)) old o₄ ((wordBytes + lineBytes) + lineBytes * (s + f))
+        unfolding planText planLines planOf dayUse
+        plan-written d o₄ u e₄ =
+            record {
+              bytes =
+                  listing-written planWord refl old _ (stretchLines m q (take slots counts) ++ feedLines slots (tanksOf maxRations numbers) (placingOf slots maxRations words)) o₁ o₃ o₄
+                  (omega (arith, lines-number, plan-stretches-few, plan-feedings-few, can .room)) e₁ lines-put (e₄ ∙ rw (u, ← p₂ .number, ← p₃ .number));
+              size = sym (listing-length planWord refl old _ ∙ omega (arith, lines-number));
+            }

@@ -1,0 +1,15 @@
+-- The sizes of the buffers that a planning call is lent, as document 01 gives them; src/sizes.rt names the same for the code. Assumes nothing.
+use Prim.Native.Nat.{ℕ, _+_, _*_}
+use Rattle.sheet.specs.Limits.{lineBytes, maxSlots, maxBlowers, maxRations}
+
+-- bytes of the word that opens a listing, with its byte 10
+abbrev pub wordBytes : ℕ
+wordBytes = 5
+
+-- bytes of the longest plan, 32,282: its word, its head line, and for each slot of each blower a stretch line and a feed line
+abbrev pub planBytes : ℕ
+planBytes = wordBytes + lineBytes * (1 + 2 * (maxSlots * maxBlowers))
+
+-- bytes of the placing buffer, 6,144: one for each slot of each ration
+abbrev pub gridBytes : ℕ
+gridBytes = maxSlots * maxRations

@@ -1,0 +1,137 @@
+-- How the stretch lines are put: one stretch more, one blower more. Assumes nothing.
+use mathlib.Core.Path.{_≡_, refl, sym, ap, _∙_}
+use mathlib.Core.Bool.{Bool}
+use mathlib.Core.List.{List, [], _∷_, _++_, map}
+use Prim.Native.Nat.{ℕ, zero, suc, _+_, _-_, _*_, _≤_, _<_}
+use native.Mathlib.Numerals.{add-one}
+use native.Mathlib.Omega.{arith}
+use lib.Dec.{leb}
+use lib.ListN.{length, getD, take, length-map}
+use Rattle.common.specs.Lists.{range, flatMap}
+use Rattle.sheet.specs.Limits.{lineBytes, maxBlowers}
+use Rattle.sheet.specs.Sheet.{writeLine}
+use Rattle.sheet.specs.Parts.{putAt}
+use Rattle.stretches.specs.Intervals.{Interval, intervals}
+use Rattle.stretches.specs.FrontRunLaws.{stretch, stretchesFrom, stretchesFrom-some, stretchesFrom-begin, stretchesFrom-end, EndsAt}
+use Rattle.energy.specs.Energy.{state}
+use Rattle.energy.specs.Usage.{Day}
+use Rattle.listing.specs.Lines.{Line, line, stretchLine, blowerLines, stretchLines}
+use Rattle.listing.specs.Putting.{Put, Putting, Room, putting-begin, putting-more, putting-room, putting-end, put-one}
+
+-- One stretch ----------------------------------------------------------------------
+
+pub record CanPutStretch (out : List ℕ) (at slots : ℕ) (counts : List ℕ) (from : ℕ) : Type 0 where
+  pub counted : Day counts slots
+  pub in-day : from < slots
+  pub room : at + lineBytes ≤ length out
+
+-- the line of the stretch that begins after place `from` was put, and r is its last slot
+pub record StretchPut (q : ℕ) (counts : List ℕ) (slots k from at : ℕ) (old new : List ℕ) (r : ℕ) : Type 0 where
+  pub ends : EndsAt counts slots k from r
+  pub text : new ≡ putAt at (writeLine k (from + 1) r (state q (stretch (from + 1) r (leb k (getD counts from 0))))) old
+
+pub stretch-put : (q : ℕ) (counts : List ℕ) (slots k from at : ℕ) (old new : List ℕ) (r x : ℕ) (b : Bool) → EndsAt counts slots k from r → b ≡ leb k (getD counts from 0)
+    → x ≡ state q (stretch (from + 1) r b) → new ≡ putAt at (writeLine k (from + 1) r x) old → StretchPut q counts slots k from at old new r
+stretch-put q counts slots k from at old new r x b e p f t =
+    record { ends = e; text = t ∙ ap (λ y. putAt at (writeLine k (from + 1) r y) old) (f ∙ ap (λ c. state q (stretch (from + 1) r c)) p) }
+
+-- One blower -----------------------------------------------------------------------
+
+pub record CanPutBlower (out : List ℕ) (at slots k q : ℕ) (counts : List ℕ) : Type 0 where
+  pub counted : Day counts slots
+  pub room : Room (blowerLines q (take slots counts) k) at out
+
+-- of blower k the stretches before place `from` were put
+pub record BlowerPut (q : ℕ) (counts : List ℕ) (slots k from at : ℕ) (old new : List ℕ) (n : ℕ) : Type 0 where
+  pub in-day : from ≤ slots
+  pub putting : Putting (blowerLines q (take slots counts) k) (map (stretchLine q k) (stretchesFrom counts slots k from)) at old new n
+
+module _ (q : ℕ) (counts : List ℕ) (slots k at : ℕ) (old : List ℕ) (can : CanPutBlower old at slots k q counts) where
+  pub blower-begin : BlowerPut q counts slots k 0 at old old 0
+  unfolding blowerLines
+  blower-begin =
+      record {
+        in-day = omega arith;
+        putting = putting-begin at old _ (can .room) _ (ap (map (stretchLine q k)) (stretchesFrom-begin counts slots k));
+      }
+
+  module _ (from n : ℕ) (new : List ℕ) (p : BlowerPut q counts slots k from at old new n) where
+    pub blower-room : from < slots → (at + lineBytes * n) + lineBytes ≤ length new
+    blower-room h =
+        omega (
+          arith,
+          stretchesFrom-some counts slots k from h (omega (arith, can .counted .long, can .counted .day)),
+          length-map (stretchesFrom counts slots k from) (stretchLine q k),
+          p .putting .number,
+          p .putting .same-length,
+          can .room,
+        )
+
+    pub blower-more : (end : ℕ) (new′ : List ℕ) → StretchPut q counts slots k from (at + lineBytes * n) new new′ end → BlowerPut q counts slots k end at old new′ (n + 1)
+    unfolding stretchLine
+    blower-more end new′ s =
+        record {
+          in-day = s .ends .within;
+          putting =
+              putting-more at old _ (can .room) (stretchLine q k v ∷ []) _ 1 (p .putting) (ap (map (stretchLine q k)) (s .ends .next))
+              (put-one (stretchLine q k v) (at + lineBytes * n) new new′ (s .text));
+        }
+      where
+        v : Interval
+        v = stretch (from + 1) end (leb k (getD counts from 0))
+
+    pub blower-end : slots ≤ from → Put (blowerLines q (take slots counts) k) at old new n
+    blower-end h = putting-end at old _ (can .room) (p .putting) none
+      where
+        last : from ≡ slots
+        last = omega (arith, p .in-day)
+
+        none : map (stretchLine q k) (stretchesFrom counts slots k from) ≡ []
+        none = rw (last, stretchesFrom-end counts slots k)
+
+-- All blowers ----------------------------------------------------------------------
+
+pub record CanPutStretches (out : List ℕ) (at slots m q : ℕ) (counts : List ℕ) : Type 0 where
+  pub counted : Day counts slots
+  pub few : m ≤ maxBlowers
+  pub room : Room (stretchLines m q (take slots counts)) at out
+
+-- the stretches of `done` blowers were put
+pub record StretchesPut (q : ℕ) (counts : List ℕ) (slots m done at : ℕ) (old new : List ℕ) (n : ℕ) : Type 0 where
+  pub in-range : done ≤ m
+  pub putting : Putting (stretchLines m q (take slots counts)) (flatMap (blowerLines q (take slots counts)) (range (suc done) (m - done))) at old new n
+
+module _ (q : ℕ) (counts : List ℕ) (slots m at : ℕ) (old : List ℕ) (can : CanPutStretches old at slots m q counts) where
+  pub stretches-begin : StretchesPut q counts slots m 0 at old old 0
+  unfolding stretchLines
+  stretches-begin =
+      record {
+        in-range = omega arith;
+        putting = putting-begin at old _ (can .room) _ (ap (λ n. flatMap (blowerLines q (take slots counts)) (range 1 n)) (all m));
+      }
+    where
+      all : (n : ℕ) → n ≡ n - 0
+      all n = omega arith
+
+  module _ (done n : ℕ) (new : List ℕ) (p : StretchesPut q counts slots m done at old new n) where
+    -- the lines of one blower more, and the others
+    next : done < m
+        → flatMap (blowerLines q (take slots counts)) (range (suc done) (m - done))
+        ≡ blowerLines q (take slots counts) (done + 1) ++ flatMap (blowerLines q (take slots counts)) (range (suc (done + 1)) (m - (done + 1)))
+    next h = ap (λ k. flatMap (blowerLines q (take slots counts)) (range (suc done) k)) left ∙ rw (← add-one done)
+      where
+        left : m - done ≡ suc (m - (done + 1))
+        left = omega arith
+
+    pub stretches-can : done < m → CanPutBlower new (at + lineBytes * n) slots (done + 1) q counts
+    stretches-can h = record { counted = can .counted; room = putting-room at old _ (can .room) (blowerLines q (take slots counts) (done + 1)) (flatMap (blowerLines q (take slots counts)) (range (suc (done + 1)) (m - (done + 1)))) (p .putting) (next h) }
+
+    pub stretches-more : (r : ℕ) (new′ : List ℕ) → done < m → Put (blowerLines q (take slots counts) (done + 1)) (at + lineBytes * n) new new′ r
+        → StretchesPut q counts slots m (done + 1) at old new′ (n + r)
+    stretches-more r new′ h s = record { in-range = omega arith; putting = putting-more at old _ (can .room) _ _ r (p .putting) (next h) s }
+
+    pub stretches-end : m ≤ done → Put (stretchLines m q (take slots counts)) at old new n
+    stretches-end h = putting-end at old _ (can .room) (p .putting) (ap (λ k. flatMap (blowerLines q (take slots counts)) (range (suc done) k)) none)
+      where
+        none : m - done ≡ 0
+        none = omega arith

@@ -1,0 +1,151 @@
+-- The listing layer's theorems beside demand 3 (DemandThree.antt), for every well-formed sheet: its listing is read back to its lines and fits the plan
+-- buffer, energy and starts fit their fields, at the end of the method low equals high, the program writes what a planning call writes, and what a
+-- comparison answers. Here are the statements; the law files have the proofs. Assumes nothing.
+use mathlib.Core.Path.{_≡_, refl, sym, ap, ap₂, _∙_}
+use mathlib.Core.Logic.{_⊎_, inl, inr, _↔_}
+use mathlib.Core.Bool.{Bool, true, false, false≢true}
+use mathlib.Core.List.{List, [], _++_}
+use Prim.Native.Nat.{ℕ, _^_, _≤_, _<_}
+use native.Mathlib.Omega.{arith}
+use lib.ListN.{length, getD, take, drop}
+use lib.Seq.{drop-at, take-at, ext-getD}
+use Rattle.common.specs.Lists.{same}
+use Rattle.sheet.specs.Limits.{width}
+use Rattle.sheet.specs.Sheet.{Sheet, lineAt, faultyLine, sheetOf}
+use Rattle.sheet.specs.Checks.{firstRefusal, faults}
+use Rattle.sheet.specs.RangeLaws.{ValuesInRange}
+use Rattle.sheet.specs.WellFormedLaws.{wellFormed-faults}
+use Rattle.placing.specs.Schedules.{Schedule}
+use Rattle.placing.specs.Calls.{demandsOf}
+use Rattle.stretches.specs.Method.{dayBounds, settleAll}
+use Rattle.stretches.specs.FeedingLaws.{same-eq, same-self}
+use Rattle.energy.specs.Energy.{starts, energy}
+use Rattle.listing.specs.Sizes.{wordBytes, planBytes}
+use Rattle.listing.specs.Lines.{Line, planLines}
+use Rattle.listing.specs.Text.{writeLines, planWord, heldWord, planText, heldText}
+use Rattle.listing.specs.Planning.{canBePlanned, countsOf, planOf, shownSet, listingOf, heldFaults, planRefusal, listedAnswer, listingAfter, compareRefusal, comparedOf, sameDay, writes, output}
+use Rattle.listing.specs.ReadListing.{written, linesOf}
+use Rattle.listing.specs.ReadLaws.{FitLines, linesOf-written, faultyLine-written}
+use Rattle.listing.specs.DayLaws.{planned-sound, sound-planned, length-countsOf, settled-low-is-high}
+use Rattle.listing.specs.FitLaws.{energy-fits, starts-fit, fit-planLines, fit-heldLines}
+use Rattle.listing.specs.WrittenLaws.{number-planned, number-held, writes-planned, writes-held, listing-written, listing-plan, listing-held, length-shownSet, shownLines, length-listing}
+use Rattle.listing.specs.DemandThree.{SoundPlacing}
+
+-- Listings ----------------------------------------------------------------------------------
+
+-- a listing's text is read as these lines, each in the sheet's form; and its word and its lines, written again, are the text
+pub record ReadsAs (text : List ℕ) (ls : List Line) : Type 0 where
+  pub lines : linesOf text ≡ ls
+  pub formed : (i : ℕ) → i < length ls → faultyLine (lineAt (drop wordBytes text) i) ≡ false
+  pub again : take wordBytes text ++ writeLines (linesOf text) ≡ text
+
+reads-as : (text word : List ℕ) (ls : List Line) → text ≡ word ++ writeLines ls → length word ≡ wordBytes → FitLines ls → ReadsAs text ls
+reads-as text word ls e w f =
+    record {
+      lines = l;
+      formed = λ i k. ap (λ x. faultyLine (lineAt x i)) (ap (drop wordBytes) e ∙ drop-at word (writeLines ls) wordBytes w) ∙ faultyLine-written ls i f k;
+      again = ap₂ (λ x y. x ++ writeLines y) (ap (take wordBytes) e ∙ take-at word (writeLines ls) wordBytes w) l ∙ sym e;
+    }
+  where
+    l : linesOf text ≡ ls
+    l = ap linesOf e ∙ linesOf-written word ls w f
+
+-- the lines of a sheet's plan, or of the sheet that is held
+unfoldable pub linesListed : Sheet → List Line
+linesListed s = elim (canBePlanned s) [ true ↦ planLines (planOf s) | false ↦ shownLines s ]
+
+module _ (b : List ℕ) (accepted : faults b ≡ []) where
+  abbrev s : Sheet
+  s = sheetOf b
+
+  values : ValuesInRange s (length (s .jobs)) true
+  values = wellFormed-faults b accepted .values
+
+  -- The listing of an accepted sheet is read back.
+  pub listing-read-back : ReadsAs (listingOf s) (linesListed s)
+  unfolding linesListed planText heldText
+  listing-read-back = go (canBePlanned s) refl
+    where
+      go : (c : Bool) → canBePlanned s ≡ c → ReadsAs (listingOf s) (linesListed s)
+      go true e = rw (e, linesListed) (reads-as (listingOf s) planWord (planLines (planOf s)) (listing-plan s values e) refl (fit-planLines s values e))
+      go false e = rw (e, linesListed) (reads-as (listingOf s) heldWord (shownLines s) (listing-held s values e) refl (fit-heldLines s values (shownSet s) (length-shownSet s)))
+
+  -- It is at most 32,282 bytes long.
+  pub listing-length : length (listingOf s) ≤ planBytes
+  listing-length = length-listing s values
+
+  -- Energy and starts fit their fields.
+  pub energy-and-starts-fit : canBePlanned s ≡ true
+      → (energy (s .blowers) (s .wake) (countsOf s) < 10 ^ width) × (starts (s .blowers) (s .wake) (countsOf s) < 10 ^ width)
+  energy-and-starts-fit e = (energy-fits s values e, starts-fit s values e)
+
+  -- At the end low equals high in each slot.
+  pub low-is-high-at-end : canBePlanned s ≡ true
+      → settleAll (s .slots) (demandsOf s) (s .blowers) (dayBounds (s .slots) (s .blowers)) .low
+      ≡ settleAll (s .slots) (demandsOf s) (s .blowers) (dayBounds (s .slots) (s .blowers)) .high
+  low-is-high-at-end e = settled-low-is-high s e
+
+  -- The program ---------------------------------------------------------------------------
+
+  -- Its whole output is what a planning call writes in any plan buffer.
+  pub program-writes : (buffer : List ℕ)
+      → output b ≡ written (listedAnswer (planRefusal b false) s) (listingAfter (planRefusal b false) s buffer)
+  unfolding output
+  program-writes buffer = go (canBePlanned s) refl
+    where
+      with-number : writes (planRefusal b false .number) ≡ true
+          → output b ≡ written (listedAnswer (planRefusal b false) s) (listingAfter (planRefusal b false) s buffer)
+      with-number w = rw w (sym (listing-written (planRefusal b false) s buffer w))
+
+      go : (c : Bool) → canBePlanned s ≡ c → output b ≡ written (listedAnswer (planRefusal b false) s) (listingAfter (planRefusal b false) s buffer)
+      go true e = with-number (writes-planned _ (number-planned b accepted false refl e))
+      go false e = with-number (writes-held _ (number-held b accepted false refl e))
+
+-- Comparison ----------------------------------------------------------------------------------
+
+-- no placing of a sheet's rations is sound
+abbrev pub NoneSound : Sheet → Type 0
+NoneSound s = (p : Schedule) → ¬ SoundPlacing s p
+
+none-sound-held : (s : Sheet) → NoneSound s → canBePlanned s ≡ false
+none-sound-held s h = go (canBePlanned s) refl
+  where
+    go : (c : Bool) → canBePlanned s ≡ c → canBePlanned s ≡ false
+    go true e = absurd (let r = planned-sound s e in h (r .0) (r .1))
+    go false e = e
+
+held-none-sound : (s : Sheet) → canBePlanned s ≡ false → NoneSound s
+held-none-sound s e p h = false≢true (sym e ∙ sound-planned s p h)
+
+-- A comparison is held where its first sheet is, whatever the second is like ..
+pub comparison-first-held : (a b : List ℕ) → faults a ≡ [] → NoneSound (sheetOf a) → comparedOf a b .number ≡ 12
+unfolding comparedOf compareRefusal heldFaults firstRefusal
+comparison-first-held a b f h = rw (f, none-sound-held (sheetOf a) h)
+
+-- .. and of two well-formed sheets exactly where one has no sound placing.
+pub comparison-held-iff : (a b : List ℕ) → faults a ≡ [] → faults b ≡ [] → (comparedOf a b .number ≡ 12) ↔ (NoneSound (sheetOf a) ⊎ NoneSound (sheetOf b))
+unfolding comparedOf compareRefusal heldFaults firstRefusal
+comparison-held-iff a b f g = go (canBePlanned (sheetOf a)) (canBePlanned (sheetOf b)) refl refl
+  where
+    go : (c d : Bool) → canBePlanned (sheetOf a) ≡ c → canBePlanned (sheetOf b) ≡ d
+        → (comparedOf a b .number ≡ 12) ↔ (NoneSound (sheetOf a) ⊎ NoneSound (sheetOf b))
+    go false d p q = (λ e. inl (held-none-sound (sheetOf a) p), λ h. rw (f, p))
+    go true false p q = (λ e. inr (held-none-sound (sheetOf b) q), λ h. rw (f, p, g, q))
+    go true true p q = (λ e. absurd (let z : 0 ≡ 12 = rw (f, p, g, q) at e in omega arith), λ h. absurd (none h))
+      where
+        none : NoneSound (sheetOf a) ⊎ NoneSound (sheetOf b) → ⊥
+        none (inl h) = false≢true (sym (none-sound-held (sheetOf a) h) ∙ p)
+        none (inr h) = false≢true (sym (none-sound-held (sheetOf b) h) ∙ q)
+
+-- Two plans are the same day exactly where D and every slot's count agree.
+pub same-day-iff : (s t : Sheet) → canBePlanned s ≡ true → canBePlanned t ≡ true
+    → (sameDay s t ≡ true) ↔ ((s .slots ≡ t .slots) × ((i : ℕ) → i < s .slots → getD (countsOf s) i 0 ≡ getD (countsOf t) i 0))
+unfolding sameDay
+same-day-iff s t p q = (
+  λ e.
+      let c = same-eq (countsOf s) (countsOf t) e in
+      (sym (length-countsOf s p) ∙ ap length c ∙ length-countsOf t q, λ i l. ap (λ xs. getD xs i 0) c),
+  λ h.
+      let c = ext-getD 0 (countsOf s) (countsOf t) (length-countsOf s p ∙ h .0 ∙ sym (length-countsOf t q)) (λ i l. h .1 i (rw (length-countsOf s p) at l)) in
+      ap (λ xs. same xs (countsOf t)) c ∙ same-self (countsOf t),
+)

@@ -1,0 +1,157 @@
+-- How the code of the method goes on by one slot and by one blower. Assumes nothing.
+use mathlib.Core.Path.{_≡_, refl, sym, ap, _∙_, subst}
+use mathlib.Core.Bool.{Bool, true, false, not}
+use mathlib.Core.List.{List}
+use Prim.Native.Nat.{ℕ, zero, suc, _+_, _-_, _≤_, _<_}
+use native.Mathlib.Numerals.{add-one}
+use native.Mathlib.Omega.{arith}
+use Rattle.placing.specs.Schedules.{Demand}
+use Rattle.placing.specs.Represents.{Represents, Ready, Idled, Busied}
+use Rattle.placing.specs.StepLaws.{represents-feasible, represents-ready}
+use Rattle.stretches.specs.Method.{Bounds, Possible, possibleUnder}
+use Rattle.stretches.specs.Slotwise.{keepAt, busyAt, settleFrom, settleEach}
+use Rattle.stretches.specs.StepLaws.{other-possible, busyAt-stays, busyAt-changes}
+use Rattle.stretches.specs.Settling.{Under, SomeDay, SomeSlot, Stepped, Settled, AllSettled, Left, LeftBlowers, Passing, PassingBlowers}
+
+-- words that hold a day say that it has a sound placing
+pub under-possible : {slots : ℕ} {ds : List Demand} {b : Bounds} {F R H C : List ℕ} → Under slots ds b F R H C → Possible slots ds b
+under-possible u = record { sized = record { each-low = u .lows; each-high = u .highs }; possible = represents-feasible u }
+
+pub slot-ready : {t : ℕ} {F R H C : List ℕ} → SomeSlot t F R H C → Ready F R H C t
+slot-ready s = represents-ready (s .day .under) _ (s .inside)
+
+module _ {t k : ℕ} {F R H C : List ℕ} where
+  -- after a question that was answered no, some day's slot again
+  pub idle-again : {F′ R′ H′ : List ℕ} {r : Bool} → SomeSlot t F R H C → Idled r F R H C F′ R′ H′ t k → r ≡ false → SomeSlot t F′ R′ H′ C
+  idle-again s i e =
+      record {
+        slots = s .slots;
+        day = record { demands = s .day .demands; bounds = s .day .bounds; under = i .no e _ _ _ _ (s .day .under) (s .inside) };
+        inside = s .inside;
+      }
+
+  pub busy-again : {F′ R′ C′ : List ℕ} {r : Bool} → SomeSlot t F R H C → Busied r F R H C F′ R′ C′ t k → r ≡ false → SomeSlot t F′ R′ H C′
+  busy-again s i e =
+      record {
+        slots = s .slots;
+        day = record { demands = s .day .demands; bounds = s .day .bounds; under = i .no e _ _ _ _ (s .day .under) (s .inside) };
+        inside = s .inside;
+      }
+
+  -- the blower stays idle
+  pub stays-idle : {F′ R′ H′ : List ℕ} {r : Bool} → Idled r F R H C F′ R′ H′ t k → r ≡ true → Stepped false k false t F R H C F′ R′ H′ C
+  stays-idle {r} i e =
+      record {
+        does = λ slots ds b u l. sym (busyAt-stays slots ds k false t b (sym (i .answer slots ds (b .low) (b .high) u l) ∙ e));
+        keeps = λ slots ds b u l. i .yes e slots ds (b .low) (b .high) u l;
+      }
+
+  -- it stays busy
+  pub stays-busy : {F′ R′ C′ : List ℕ} {r : Bool} → Busied r F R H C F′ R′ C′ t k → r ≡ true → Stepped true k true t F R H C F′ R′ H C′
+  stays-busy i e =
+      record {
+        does = λ slots ds b u l. sym (busyAt-stays slots ds k true t b (sym (i .answer slots ds (b .low) (b .high) u l) ∙ e));
+        keeps = λ slots ds b u l. i .yes e slots ds (b .low) (b .high) u l;
+      }
+
+  -- it can't stay idle, and so it can be busy
+  pub turns-busy : {F₁ R₁ H₁ F′ R′ C′ : List ℕ} {r q : Bool} → Idled r F R H C F₁ R₁ H₁ t k → r ≡ false → Busied q F₁ R₁ H₁ C F′ R′ C′ t k
+      → Stepped true k false t F R H C F′ R′ H₁ C′
+  turns-busy i e j =
+      record {
+        does = λ slots ds b u l. sym (busyAt-changes slots ds k false t b (cannot slots ds b u l));
+        keeps = λ slots ds b u l.
+            let v = i .no e slots ds (b .low) (b .high) u l in
+            j .yes (j .answer slots ds (b .low) (b .high) v l ∙ other-possible (u .windows) k false t (under-possible u) l (cannot slots ds b u l))
+            slots ds (b .low) (b .high) v l;
+      }
+    where
+      cannot : (slots : ℕ) (ds : List Demand) (b : Bounds) → Under slots ds b F R H C → t < slots → possibleUnder slots ds (keepAt k false t b) ≡ false
+      cannot slots ds b u l = sym (i .answer slots ds (b .low) (b .high) u l) ∙ e
+
+  -- it can't stay busy, and so it can be idle
+  pub turns-idle : {F₁ R₁ C₁ F′ R′ H′ : List ℕ} {r q : Bool} → Busied r F R H C F₁ R₁ C₁ t k → r ≡ false → Idled q F₁ R₁ H C₁ F′ R′ H′ t k
+      → Stepped false k true t F R H C F′ R′ H′ C₁
+  turns-idle i e j =
+      record {
+        does = λ slots ds b u l. sym (busyAt-changes slots ds k true t b (cannot slots ds b u l));
+        keeps = λ slots ds b u l.
+            let v = i .no e slots ds (b .low) (b .high) u l in
+            j .yes (j .answer slots ds (b .low) (b .high) v l ∙ other-possible (u .windows) k true t (under-possible u) l (cannot slots ds b u l))
+            slots ds (b .low) (b .high) v l;
+      }
+    where
+      cannot : (slots : ℕ) (ds : List Demand) (b : Bounds) → Under slots ds b F R H C → t < slots → possibleUnder slots ds (keepAt k true t b) ≡ false
+      cannot slots ds b u l = sym (i .answer slots ds (b .low) (b .high) u l) ∙ e
+
+-- ---- the slots of a blower
+
+module _ {slots k : ℕ} where
+  pub left-begin : {ds : List Demand} {b : Bounds} {F R H C : List ℕ} → Under slots ds b F R H C → Left slots k false 0 ds b F R H C
+  left-begin {ds} {b} u = record { bounds = b; under = u; same = ap (λ n. settleFrom slots ds k false n 0 b) (all slots) }
+    where
+      all : (n : ℕ) → n ≡ n - 0
+      all n = omega arith
+
+  pub left-next : {busy r : Bool} {t : ℕ} {ds : List Demand} {b : Bounds} {F R H C F′ R′ H′ C′ : List ℕ} → t < slots → Left slots k busy t ds b F R H C
+      → Stepped r k busy t F R H C F′ R′ H′ C′ → Left slots k r (t + 1) ds b F′ R′ H′ C′
+  unfolding settleFrom
+  left-next {busy} {r} {t} {ds} {b} l p s =
+      let c = p .bounds in
+      let d = s .does slots ds c (p .under) l in
+      record {
+        bounds = keepAt k r t c;
+        under = s .keeps slots ds c (p .under) l;
+        same =
+            p .same ∙ ap (λ n. settleFrom slots ds k busy n t c) one-more
+            ∙ ap (λ x. settleFrom slots ds k x (slots - (t + 1)) (suc t) (keepAt k x t c)) (sym d)
+            ∙ ap (λ n. settleFrom slots ds k r (slots - (t + 1)) n (keepAt k r t c)) (sym (add-one t));
+      }
+    where
+      one-more : slots - t ≡ suc (slots - (t + 1))
+      one-more = omega arith
+
+  pub left-end : {busy : Bool} {t : ℕ} {ds : List Demand} {b : Bounds} {F R H C : List ℕ} → slots ≤ t → Left slots k busy t ds b F R H C
+      → Under slots ds (settleFrom slots ds k false slots 0 b) F R H C
+  unfolding settleFrom
+  left-end {busy} {t} {ds} {b} {F} {R} {H} {C} l p =
+      subst (λ c. Under slots ds c F R H C) (sym (p .same ∙ ap (λ n. settleFrom slots ds k busy n t (p .bounds)) none)) (p .under)
+    where
+      none : slots - t ≡ zero
+      none = omega arith
+
+  pub passing-slot : {busy : Bool} {t : ℕ} {F₀ R₀ H₀ C₀ F R H C : List ℕ} → SomeDay slots F₀ R₀ H₀ C₀ → t < slots → Passing slots k busy t F₀ R₀ H₀ C₀ F R H C → SomeSlot t F R H C
+  passing-slot s l p =
+      let q = p (s .demands) (s .bounds) (s .under) in
+      record { slots = slots; day = record { demands = s .demands; bounds = q .bounds; under = q .under }; inside = l }
+
+-- ---- the blowers
+
+module _ {slots m : ℕ} where
+  pub blowers-begin : {ds : List Demand} {b : Bounds} {F R H C : List ℕ} → Under slots ds b F R H C → LeftBlowers slots m m ds b F R H C
+  blowers-begin {b} u = record { bounds = b; under = u; same = refl }
+
+  pub blowers-next : {k : ℕ} {ds : List Demand} {b : Bounds} {F R H C F′ R′ H′ C′ : List ℕ} → 0 < k → LeftBlowers slots m k ds b F R H C
+      → Settled slots k F R H C F′ R′ H′ C′ → LeftBlowers slots m (k - 1) ds b F′ R′ H′ C′
+  unfolding settleEach
+  blowers-next {k = zero} h p s = absurd (omega arith)
+  blowers-next {k = suc k} {ds} {b} {F′} {R′} {H′} {C′} h p s =
+      rw (pred k)
+      (record {
+        bounds = settleFrom slots ds (suc k) false slots 0 (p .bounds);
+        under = s ds (p .bounds) (p .under);
+        same = p .same;
+      })
+    where
+      pred : (k : ℕ) → suc k - 1 ≡ k
+      pred k = omega arith
+
+  pub blowers-end : {k : ℕ} {ds : List Demand} {b : Bounds} {F R H C : List ℕ} → k ≡ 0 → LeftBlowers slots m k ds b F R H C → Under slots ds (settleEach slots ds m b) F R H C
+  unfolding settleEach
+  blowers-end {k} {ds} {b} {F} {R} {H} {C} e p =
+      subst (λ c. Under slots ds c F R H C) (sym (p .same ∙ ap (λ n. settleEach slots ds n (p .bounds)) e)) (p .under)
+
+  pub passing-day : {k : ℕ} {F₀ R₀ H₀ C₀ F R H C : List ℕ} → SomeDay slots F₀ R₀ H₀ C₀ → PassingBlowers slots m k F₀ R₀ H₀ C₀ F R H C → SomeDay slots F R H C
+  passing-day s p =
+      let q = p (s .demands) (s .bounds) (s .under) in
+      record { demands = s .demands; bounds = q .bounds; under = q .under }
