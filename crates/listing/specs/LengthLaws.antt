@@ -46,7 +46,7 @@ length-setBits-ones (suc n) j w h = go (w % 2) refl (length-setBits-ones n (suc 
     go (suc zero) e ih = omega (arith, ones-step w)
     go (suc (suc r)) e ih = absurd (omega arith)
 
-getD-map-range : (f : ℕ → ℕ) (a n j : ℕ) → j < n → getD (map f (range a n)) j 0 ≡ f (a + j)
+pub getD-map-range : (f : ℕ → ℕ) (a n j : ℕ) → j < n → getD (map f (range a n)) j 0 ≡ f (a + j)
 getD-map-range f a zero j l = absurd (omega arith)
 getD-map-range f a (suc n) zero l = ap f (omega arith)
 getD-map-range f a (suc n) (suc j) l = getD-map-range f (suc a) n j (omega arith) ∙ ap f (omega arith)

@@ -31,3 +31,8 @@ pub mod FeedSteps
 pub mod GridSteps
 pub mod HeldSteps
 pub mod PlanSteps
+pub mod InputLaws
+pub mod CallSteps
+pub mod NumberLaws
+pub mod CallAnswers
+pub mod CompareSteps

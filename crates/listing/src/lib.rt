@@ -1,5 +1,7 @@
-// The listing: the bytes of a plan and of a held sheet, and of the placing buffer.
+// The planning calls, the comparison, and the bytes of a listing and of a placing.
 mod bits;
+mod calls;
+mod comparing;
 mod feed_lines;
 mod grid;
 mod held;
@@ -8,13 +10,12 @@ mod plan_listing;
 mod sizes;
 mod stretch_lines;
 
-pub use feed_lines::put_feedings;
-pub use grid::clear_grid;
-pub use grid::put_grid;
-pub use held::put_held;
+pub use calls::plan;
+pub use calls::plan_both;
+pub use calls::plan_number;
+pub use calls::plan_placing;
+pub use comparing::compare;
 pub use opening::put_refusal;
-pub use plan_listing::put_plan;
-pub use stretch_lines::put_stretches;
 
 // What a planning call answers: the length is that of the listing written, 0 where none is.
 pub struct Planned {

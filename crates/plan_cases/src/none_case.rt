@@ -1,0 +1,7 @@
+// A sheet planned with no buffer: `N number line length`.
+use crate::answers;
+
+pub fn answer(sheet: &[u8]) {
+    let r = listing::plan_number(sheet);
+    answers::write_planned(b"N", r.number, r.line, r.length);
+}
