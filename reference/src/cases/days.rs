@@ -84,16 +84,13 @@ fn answer(case: &Case) -> String {
 #[cfg(test)]
 mod tests {
     use super::*;
-    use crate::cases::{parse, stream};
+    use crate::cases::assert_streamed;
     use crate::placing::shown_set;
     use crate::sheet::{read, Ration, Sheet};
 
     #[test]
     fn the_stream_holds_the_cases() {
-        let cases = cases();
-        let bytes = stream(&cases);
-        assert!(bytes.len() < 2_500_000);
-        assert_eq!(parse(&bytes), cases);
+        assert_streamed(&cases(), 2_500_000);
     }
 
     #[test]

@@ -102,3 +102,11 @@ pub fn digest(bytes: &[u8]) -> u32 {
         .iter()
         .fold(0, |h, &b| (h * 31 + u32::from(b)) % 65_521)
 }
+
+/// The stream of these cases is parsed to the same cases and is no longer than so many bytes.
+#[cfg(test)]
+fn assert_streamed(cases: &[Case], most: usize) {
+    let bytes = stream(cases);
+    assert!(bytes.len() < most);
+    assert_eq!(parse(&bytes), cases);
+}

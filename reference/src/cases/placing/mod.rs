@@ -52,15 +52,12 @@ fn bounds_case(sheet: &[u8], lows: &[u32], highs: &[u32]) -> Case {
 #[cfg(test)]
 mod tests {
     use super::*;
+    use crate::cases::assert_streamed;
     use crate::cases::sheets::{first_day, held_day, idle_first_day, text};
-    use crate::cases::{parse, stream};
 
     #[test]
     fn the_stream_holds_the_cases() {
-        let cases = cases();
-        let bytes = stream(&cases);
-        assert!(bytes.len() < 1_000_000);
-        assert_eq!(parse(&bytes), cases);
+        assert_streamed(&cases(), 1_000_000);
     }
 
     #[test]

@@ -61,16 +61,13 @@ fn compare_case(first: &[u8], second: &[u8]) -> Case {
 #[cfg(test)]
 mod tests {
     use super::*;
+    use crate::cases::assert_streamed;
     use crate::cases::sheets::{first_day, held_day, text};
-    use crate::cases::{parse, stream};
     use crate::listing::{PLACING_BUFFER, PLAN_BUFFER};
 
     #[test]
     fn the_stream_holds_the_cases() {
-        let cases = cases();
-        let bytes = stream(&cases);
-        assert!(bytes.len() < 1_000_000);
-        assert_eq!(parse(&bytes), cases);
+        assert_streamed(&cases(), 1_000_000);
     }
 
     #[test]

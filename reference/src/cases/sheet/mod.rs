@@ -104,8 +104,8 @@ fn write_case(buffer_length: usize, numbers: &[u32]) -> Case {
 #[cfg(test)]
 mod tests {
     use super::*;
+    use crate::cases::assert_streamed;
     use crate::cases::sheets::{first_day, with, Lines};
-    use crate::cases::{parse, stream};
     use crate::sheet::LINE;
 
     fn answer_text(case: Case) -> String {
@@ -114,10 +114,7 @@ mod tests {
 
     #[test]
     fn the_stream_holds_the_cases() {
-        let cases = cases();
-        let bytes = stream(&cases);
-        assert!(bytes.len() < 1_500_000);
-        assert_eq!(parse(&bytes), cases);
+        assert_streamed(&cases(), 1_500_000);
     }
 
     #[test]
