@@ -73,6 +73,13 @@ put-column at (suc n) v old mid p h e = rw (pred n) (go (rw (pred n) at e))
         ∙ ap (putAt (at + n) (column v ∷ [])) e
         ∙ putAt-append at n (leading n (v / 10)) (column v ∷ []) old (length-leading n (v / 10)) (omega arith)
 
+-- the first column
+pub put-first : (at v : ℕ) (old : List ℕ) → at + 1 ≤ length old → set old at (column v) ≡ putAt at (leading 1 v) old
+put-first at v old h = ap (λ i. set old i (column v)) start ∙ put-column at 1 v old old (omega arith) h (put-none at (v / 10) old)
+  where
+    start : at ≡ at + (1 - 1)
+    start = omega arith
+
 pub put-last : (at v : ℕ) (old mid : List ℕ) → at + width ≤ length old → mid ≡ putAt at (leading (width - 1) (v / 10)) old
     → set mid (at + (width - 1)) (digit (v % 10)) ≡ putAt at (writeField v) old
 unfolding writeField columns

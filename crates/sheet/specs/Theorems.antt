@@ -1,20 +1,23 @@
 -- The sheet layer's theorems, about the definitions that the calls' promises are equations with. Assumes nothing.
-use mathlib.Core.Path.{_≡_, sym, ap, ap₂, subst₂, _∙_}
+use mathlib.Core.Path.{_≡_, sym, ap, ap₂, subst, subst₂, _∙_}
 use mathlib.Core.Bool.{true}
 use mathlib.Core.List.{List, []}
 use Prim.Native.Nat.{ℕ, _-_, _≤_, _<_}
 use native.Mathlib.Omega.{arith}
-use lib.ListN.{length}
+use lib.ListN.{length, take}
+use borrow.Author.Tests.{eq-eqb}
 use Rattle.sheet.specs.declared.Refusal.{Refusal}
 use Rattle.sheet.specs.declared.Reading.{Reading}
 use Rattle.sheet.specs.Sheet.{Sheet, lineCount, lineAt, valueAt, sheetOf, writeSheet}
 use Rattle.sheet.specs.Checks.{valueFaults, faults}
-use Rattle.sheet.specs.Calls.{accepted, readingOf, writtenOf, bufferAfter, over, lookUp}
+use Rattle.sheet.specs.Calls.{accepted, readingOf, writeRefusal, sheetFrom, writtenOf, bufferAfter, over, lookUp}
 use Rattle.sheet.specs.SheetLaws.{sheetOf-writeSheet, length-writeSheet}
 use Rattle.sheet.specs.RangeLaws.{inRange-valueFaults, fits-inRange}
 use Rattle.sheet.specs.WellFormedLaws.{faults-wellFormed, wellFormed-faults, wellFormed-writeSheet, writeSheet-wellFormed, valueFaults-wellFormed}
+use Rattle.sheet.specs.NumbersLaws.{length-jobsOf, numbersOf-jobsOf}
+use Rattle.sheet.specs.WriteSteps.{write-accepted}
 use Rattle.sheet.specs.FindLaws.{lineOf-rising, lineOf-none, lineOf-some}
-use Rattle.sheet.specs.CallLaws.{readingOf-accepted, faults-readingOf, sheetRead, sheetRead-accepted, refusalAgain, refusalAgain-accepted, lookUp-accepted, lookUp-refused, faults-lookUp, lookUp-none}
+use Rattle.sheet.specs.CallLaws.{readingOf-accepted, faults-readingOf, rationsRead, rationsRead-accepted, take-over, sheetRead, sheetRead-accepted, refusalAgain, refusalAgain-accepted, lookUp-accepted, lookUp-refused, faults-lookUp, lookUp-none}
 
 -- A sheet written from values that are all in range is accepted, ..
 pub written-accepted : (s : Sheet) → valueFaults s (length (s .jobs)) true ≡ [] → faults (writeSheet s) ≡ []
@@ -55,6 +58,20 @@ read-written-again b old z h =
     (sym (readingOf-accepted b e))
     (read-written b e)
     (accepted-again (sheetOf b) old v (rw (read-written b e) h))
+
+-- And the other way round: the values that the writer accepted, read again from what it wrote, are the same values.
+pub written-read-again : (slots blowers wake n : ℕ) (numbers old : List ℕ)
+    → let s = sheetFrom slots blowers wake numbers in let r = writeRefusal s n numbers (length old) in
+    r .number ≡ 0 → (readingOf (take (writtenOf r s .length) (bufferAfter r s old)) ≡ accepted s) × (rationsRead (accepted s) ≡ numbers)
+unfolding sheetFrom writtenOf bufferAfter
+written-read-again slots blowers wake n numbers old e =
+    let s = sheetFrom slots blowers wake numbers in
+    let a = write-accepted s n numbers (length old) e in
+    let m = sym (length-jobsOf n numbers (sym (a .agrees))) in (
+      rw (eq-eqb (writeRefusal s n numbers (length old) .number) 0 e)
+          (ap readingOf (take-over (writeSheet s) old) ∙ written-read s (subst (λ k. valueFaults s k true ≡ []) m (a .values))),
+      rationsRead-accepted s ∙ numbersOf-jobsOf n numbers (sym (a .agrees)),
+    )
 
 -- A look-up gives the line whose first field is the tank: no other line has it, since the tanks rise.
 pub find-line : (b : List ℕ) (tank i : ℕ) → faults b ≡ [] → 1 ≤ i → i < lineCount b → valueAt (lineAt b i) 0 ≡ tank → lookUp b tank ≡ lineAt b i

@@ -1,5 +1,5 @@
 -- How writing a sheet and looking a tank up go on. Assumes nothing.
-use mathlib.Core.Path.{_≡_, refl, sym, ap, _∙_}
+use mathlib.Core.Path.{_≡_, refl, sym, ap, _∙_, subst}
 use mathlib.Core.Bool.{Bool, true, false, _||_, not, cond}
 use mathlib.Core.List.{List, [], _∷_, _++_, append-assoc, append-nil}
 use Prim.Native.Nat.{ℕ, zero, suc, _+_, _-_, _*_, _≤_, _<_}
@@ -212,6 +212,7 @@ read-lines b e = wellFormed-faults b (faults-readingOf b e) .size .ge
 
 pub record WriteAccepted (s : Sheet) (n : ℕ) (numbers : List ℕ) (size : ℕ) : Type 0 where
   pub refusal : writeRefusal s n numbers size ≡ record { number = 0; line = 0 }
+  pub values : valueFaults s n true ≡ []
   pub few : n ≤ maxRations
   pub agrees : fields * n ≡ length numbers
   pub room : lineBytes * suc n ≤ size
@@ -226,6 +227,7 @@ write-accepted s n numbers size z =
     let h = inRange-valueFaults s n (eqb (fields * n) (length numbers)) (parts .0) .head in
     record {
       refusal = ap firstRefusal none;
+      values = subst (λ x. valueFaults s n x ≡ []) (h .agree) (parts .0);
       few = h .rations;
       agrees = eqb-true (fields * n) (length numbers) (h .agree);
       room = ltb-false size (lineBytes * suc n) (false-fault 10 0 (ltb size (lineBytes * suc n)) (parts .1));

@@ -105,23 +105,22 @@ fn column_byte(rest: u32) -> u8
     }
 }
 
-// Writes n columns for a number at a place of out.
-fn put_leading(out: &mut [u8], at: usize, n: usize, rest: u32)
-    requires { ⌜ at + n ≤ length (now out) ⌝ }
-    ensures { λ _. ⌜ now (out .exit) ≡ putAt at (leading n rest) (now (out .entry)) ⌝ }
-{
-    if n == 0 {
-        return;
-    }
-    put_leading(out, at, n - 1, rest / 10);
-    out[at + (n - 1)] = column_byte(rest);
-}
-
-// Writes the field of v at a place of out.
+// Writes the field of v at a place of out: each column has what is left of v without the columns after it.
 pub fn put_field(out: &mut [u8], at: usize, v: u32)
     requires { ⌜ at + width ≤ length (now out) ⌝ }
     ensures { λ _. ⌜ now (out .exit) ≡ putAt at (writeField v) (now (out .entry)) ⌝ }
 {
-    put_leading(out, at, WIDTH - 1, v / 10);
-    out[at + (WIDTH - 1)] = 48 + (v % 10) as u8;
+    let fourth = v / 10;
+    let third = fourth / 10;
+    let second = third / 10;
+    let first = second / 10;
+    let a = column_byte(first);
+    let b = column_byte(second);
+    let c = column_byte(third);
+    let d = column_byte(fourth);
+    out[at] = a;
+    out[at + 1] = b;
+    out[at + 2] = c;
+    out[at + 3] = d;
+    out[at + 4] = 48 + (v % 10) as u8;
 }

@@ -12,9 +12,11 @@ mod reader;
 mod writer;
 
 pub use finder::find;
-pub use lines::put_line;
 pub use reader::read;
 pub use writer::write;
+
+// for the layers above: it asks for room in the buffer
+pub use lines::put_line;
 
 // What a field holds: a number in the stated form, or something else.
 pub enum Field {
@@ -29,6 +31,7 @@ pub struct Refusal {
 }
 
 // What `read` answers. On a refusal every field after `line` is 0.
+#[repr(C)]
 pub struct Reading {
     pub number: u32,
     pub line: u32,
@@ -41,6 +44,7 @@ pub struct Reading {
 }
 
 // What `write` answers: the length is that of the sheet written, 0 on a refusal.
+#[repr(C)]
 pub struct Written {
     pub number: u32,
     pub line: u32,
