@@ -9,3 +9,4 @@ pub mod MarkLaws
 pub mod FrontLaws
 pub mod SpreadLaws
 pub mod CarryLaws
+pub mod StraightLaws

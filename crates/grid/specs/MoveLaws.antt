@@ -1,6 +1,6 @@
 -- What a move, and a chain of moves, does to the words, the loads and the volumes. Assumes nothing.
 use mathlib.Core.Path.{_≡_, refl, sym, ap, _∙_, subst}
-use mathlib.Core.Logic.{_≢_}
+use mathlib.Core.Logic.{_≢_, _⊎_, inl, inr, ⊎-elim}
 use mathlib.Core.List.{List}
 use Prim.Native.Nat.{ℕ, _+_, _-_, _^_, _<_}
 use native.Mathlib.Nat.{pos-of-ne-zero}
@@ -180,6 +180,30 @@ module _ {F R F′ R′ : List ℕ} {x y : ℕ} (m : Move F R F′ R′ x y) whe
 
       at-y : (k : ℕ) → bit (at R y - 2 ^ m .j) k ≡ 1 → bit (at R y) k ≡ 1
       at-y k r = omega (arith, sub-bits (at R y) (m .j) k (m .wants), bit-lt (at R y) k)
+
+  -- what is fed in a slot now was fed there before, or in x
+  pub move-fed : (k t : ℕ) → bit (at F′ t) k ≡ 1 → (bit (at F t) k ≡ 1) ⊎ (bit (at F x) k ≡ 1)
+  move-fed k =
+      slot-cases (λ (t : ℕ). bit (at F′ t) k ≡ 1 → (bit (at F t) k ≡ 1) ⊎ (bit (at F x) k ≡ 1)) x y
+      (λ f. inl (omega (arith, ap (λ (w : ℕ). bit w k) fed-x, sub-bits (at F x) (m .j) k (m .has), bit-lt (at F x) k)))
+      (λ f. at-y (ℕ-discrete k (m .j)) (rw fed-y at f))
+      (λ t p q f. inl (rw (fed-other t p q) at f))
+    where
+      at-y : Dec (k ≡ m .j) → bit (at F y + 2 ^ m .j) k ≡ 1 → (bit (at F y) k ≡ 1) ⊎ (bit (at F x) k ≡ 1)
+      at-y (yes i) f = inr (ap (bit (at F x)) i ∙ m .has)
+      at-y (no i) f = inl (omega (arith, add-bits (at F y) (m .j) k empty, ind-other k (m .j) i))
+
+  -- a closed set that has both ends stays closed
+  pub move-inside : (Q : List ℕ) → Seen Q x → Seen Q y → Closed F R Q → Closed F′ R′ Q
+  move-inside Q qx qy c t z s e =
+      let w = some-bit (bitAnd (at F′ t) (at R′ z)) e in
+      let k = w .0 in
+      let b = both-of-and (at F′ t) (at R′ z) k (w .1) in
+      slot-cases (λ (z : ℕ). bit (at R′ z) k ≡ 1 → Seen Q z) x y (λ r. qx) (λ r. qy)
+      (λ u p q r.
+      let r = rw (rest-other u p q) at r in
+      ⊎-elim (λ f. c t u s (and-of-both (at F t) (at R u) k f r)) (λ f. c x u qx (and-of-both (at F x) (at R u) k f r)) (move-fed k t (b .0)))
+      z (b .1)
 
 -- ---- a chain of moves
 

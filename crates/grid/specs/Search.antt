@@ -7,6 +7,7 @@ use mathlib.Core.Bool.{Bool, true, false}
 use mathlib.Core.List.{List, [], _∷_}
 use Prim.Native.Nat.{ℕ, zero, suc, _+_, _≤_, _<_}
 use lib.Bits.{bitAnd, bitOr}
+use lib.Count.{ones}
 use lib.ListN.{length, set}
 use Rattle.grid.specs.Grid.{slots, at, load, Seen, Edge, Closed, Reach, Grid, Path}
 
@@ -59,6 +60,20 @@ pub record Pushed (r : Bool) (F R H S F′ R′ S′ : List ℕ) (x : ℕ) : Typ
   pub won : r ≡ true → Won F R H S F′ R′ x
   pub same : r ≡ false → Same F R F′ R′
   pub lost : r ≡ false → Lost F R H S S′ x
+
+-- ---- `straight`
+
+-- a slot with the fed word f, the rest word r, the high h and the mark s can take a ration from one with the fed word w
+pub record Open (b : Bool) (w f r h s : ℕ) : Type 0 where
+  pub edge : b ≡ true → bitAnd w r ≢ 0
+  pub new : b ≡ true → s ≡ 0
+  pub room : b ≡ true → ones f < h
+
+-- slot y, if it is one, can take a ration straight from x
+pub record Straight (F R H S : List ℕ) (x y : ℕ) : Type 0 where
+  pub edge : y < slots → Edge F R x y
+  pub new : y < slots → at S y ≡ 0
+  pub room : y < slots → load F y < at H y
 
 -- ---- `look`, `sweep`
 

@@ -6,12 +6,12 @@ ghost use Prim.Native.Nat.{_<_};
 ghost use lib.Count.{ones};
 ghost use lib.Dec.{ltb};
 ghost use Rattle.grid.specs.Grid.{Move};
-ghost use Rattle.grid.specs.Search.{CanShift, CanLook, Looked, CanSweep, Swept, CanSpread, Sought, IsParent, CanParent, Parent, CanCarry, Carried, CanPush, Pushed};
+ghost use Rattle.grid.specs.Search.{CanShift, Open, Straight, CanLook, Looked, CanSweep, Swept, CanSpread, Sought, IsParent, CanParent, Parent, CanCarry, Carried, CanPush, Pushed};
 use crate::SLOTS;
 use crate::bits;
 
 // Moves a ration from slot x to slot y.
-fn shift(fed: &mut [u64; SLOTS], rest: &mut [u64; SLOTS], x: usize, y: usize)
+pub fn shift(fed: &mut [u64; SLOTS], rest: &mut [u64; SLOTS], x: usize, y: usize)
     requires { ⌜ CanShift (now fed) (now rest) x y ⌝ }
     ensures { λ _. ⌜ Move (now (fed .entry)) (now (rest .entry)) (now (fed .exit)) (now (rest .exit)) x y ⌝ }
 {
@@ -35,6 +35,40 @@ pub fn has_room(word: u64, high: u8) -> bool
     ensures { λ r. ⌜ r ≡ ltb (ones word) high ⌝ }
 {
     u64::count_ones(word) < high as u32
+}
+
+// Whether a slot with these words, this high and this mark can take a ration straight from one that feeds the rations of `from`.
+fn is_open(from: u64, fed: u64, rest: u64, high: u8, mark: u8) -> bool
+    ensures { λ r. ⌜ Open r from fed rest high mark ⌝ }
+{
+    let both = from & rest;
+    if both == 0 {
+        return false;
+    }
+    if mark != 0 {
+        return false;
+    }
+    has_room(fed, high)
+}
+
+// The first slot after x that can take a ration straight from x, SLOTS for none.
+fn straight(
+    fed: &[u64; SLOTS],
+    rest: &[u64; SLOTS],
+    high: &[u8; SLOTS],
+    seen: &[u8; SLOTS],
+    x: usize,
+) -> usize
+    requires { ⌜ CanPush (now fed) (now rest) (now high) (now seen) x ⌝ }
+    ensures { λ r. ⌜ Straight (now (fed .entry)) (now (rest .entry)) (now (high .entry)) (now (seen .entry)) x r ⌝ }
+{
+    let from = fed[x];
+    for y in x + 1..SLOTS {
+        if is_open(from, fed[y], rest[y], high[y], seen[y]) {
+            return y;
+        }
+    }
+    SLOTS
 }
 
 // How far a search has come: the rations fed in the slots that it marked, the last number that it gave, and the slot with room that it found,
@@ -197,9 +231,8 @@ fn carry(fed: &mut [u64; SLOTS], rest: &mut [u64; SLOTS], order: &[u8; SLOTS], x
     }
 }
 
-// Frees a place in slot x: a chain of moves from x to a slot that has room. Where there is none, nothing moves, and the slots reached from x
-// are marked.
-pub fn push(
+// Frees a place in slot x by a chain of any length: what `push` does, for a caller that knows that no one move to a later slot does it.
+pub fn push_along(
     fed: &mut [u64; SLOTS],
     rest: &mut [u64; SLOTS],
     high: &[u8; SLOTS],
@@ -217,4 +250,25 @@ pub fn push(
         return true;
     }
     false
+}
+
+// Frees a place in slot x: a chain of moves from x to a slot that has room. Where there is none, nothing moves, and the slots reached from x
+// are marked. Most often one move does, so that is tried first.
+pub fn push(
+    fed: &mut [u64; SLOTS],
+    rest: &mut [u64; SLOTS],
+    high: &[u8; SLOTS],
+    seen: &mut [u8; SLOTS],
+    x: usize,
+) -> bool
+    requires { ⌜ CanPush (now fed) (now rest) (now high) (now seen) x ⌝ }
+    ensures { λ r. ⌜ Pushed r (now (fed .entry)) (now (rest .entry)) (now (high .entry)) (now (seen .entry))
+        (now (fed .exit)) (now (rest .exit)) (now (seen .exit)) x ⌝ }
+{
+    let near = straight(fed, rest, high, seen, x);
+    if near < SLOTS {
+        shift(fed, rest, x, near);
+        return true;
+    }
+    push_along(fed, rest, high, seen, x)
 }

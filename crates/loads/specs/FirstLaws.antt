@@ -133,6 +133,10 @@ module _ {F₀ R₀ H : List ℕ} {j : ℕ} (p : CanPass F₀ R₀ H j) where
     pub passed : slots ≤ t → FedPass j left₀ left F₀ R₀ H F R
     passed k = record { made = l .made; counted = l .counted; fed = l .fed; tried = λ h u m. l .tried h u (omega arith) }
 
+    -- all feedings are made
+    pub passed-early : left ≡ 0 → FedPass j left₀ 0 F₀ R₀ H F R
+    passed-early e = record { made = l .made; counted = omega (arith, l .counted); fed = l .fed; tried = λ h. absurd (omega arith) }
+
 -- ---- one ration: the second pass takes every slot that is left of its window
 
 -- more than a slot can hold

@@ -55,6 +55,9 @@ fn feed_pass(
 {
     let mut n = left;
     for t in 0..SLOTS {
+        if n == 0 {
+            return 0;
+        }
         n = feed_slot(fed, rest, high[t], j, t, n);
     }
     n

@@ -1,20 +1,25 @@
--- `push` meets its contract. Assumes nothing.
+-- `push` meets its contract: one move, or a chain of any length. Assumes nothing.
 use native.Mathlib.Omega.{arith}
-use Rattle.grid.specs.CarryLaws.{push-spread, push-carry, pushed-won, pushed-lost}
+use Rattle.grid.specs.StraightLaws.{straight-shift, pushed-straight}
+use borrow.Author.Needs.{needs}
 use Rattle.grid.proofs.search.push.Statement.{statement}
 use Rattle.grid.proofs.search.push.Tie as tie
 
-spread-requires : tie.Need-spread-requires
-spread-requires c κs = push-spread (c .before .before .before .before .pre)
+straight-requires : tie.Need-straight-requires
+straight-requires c κs = search needs
 
-carry-requires : tie.Need-carry-requires
-carry-requires c κs = push-carry (c .before .before .before .before .before .before .before .before .before .pre) (c .before .before .before .before .spread .ensures) (omega (arith, c .before .before .before .if1 .taken))
+shift-requires : tie.Need-shift-requires
+shift-requires c κs = straight-shift (c .before .before .before .before .before .before .before .pre) (c .before .before .before .straight .ensures) (omega (arith, c .before .before .if1 .taken))
 
 returns : tie.Need-returns
-returns c = pushed-won (c .before .before .before .before .before .before .before .before .before .before .pre) (c .before .before .before .before .before .spread .ensures) (omega (arith, c .before .before .before .before .if1 .taken)) (c .carry .ensures)
+returns c = pushed-straight (c .before .before .before .before .before .before .before .before .pre) (c .before .before .before .before .straight .ensures) (omega (arith, c .before .before .before .if1 .taken)) (c .shift .ensures)
+
+push-along-requires : tie.Need-push-along-requires
+push-along-requires c κs = search needs
 
 returns-2 : tie.Need-returns-2
-returns-2 c = pushed-lost (c .before .before .before .before .before .before .pre) (c .before .spread .ensures) (omega (arith, c .if1 .left))
+returns-2 c = search needs
 
 pub push-spec : {M : Type 1} → statement M
-push-spec = tie.close (tie.spec spread-requires carry-requires returns returns-2)
+push-spec =
+    tie.close (tie.spec straight-requires shift-requires returns push-along-requires returns-2)
