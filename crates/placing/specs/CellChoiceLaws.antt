@@ -19,7 +19,7 @@ use Rattle.loads.specs.ExchangeLaws.{grid-exchange}
 use Rattle.loads.specs.Meaning.{Day, Places}
 use Rattle.loads.specs.MeaningLaws.{one-true}
 use Rattle.loads.specs.StateLaws.{put-same, put-other, at-or-other}
-use Rattle.placing.specs.CellChoice.{oneLess, Exactly, Feedable, CanFeed, Decided, FirstFed, CanAsk, CanReplace, Answered}
+use Rattle.placing.specs.CellChoice.{oneLess, Exactly, Feedable, CanFeed, Decided, FirstFed, CanAsk, Partner, CanReplace, Answered}
 use Rattle.placing.specs.ExactlyLaws.{exactly-windows}
 use Rattle.placing.specs.CellWordLaws.{cell-cases, less-below, out-grid, out-load, out-volume, out-rest, out-fed}
 
@@ -92,9 +92,12 @@ module _ {F R H : List ℕ} {t j : ℕ} (p : CanAsk F R H t j) where
         none = λ e n d free v c x m l f g T q o. omega (arith, x .places .volumes j m, nowhere-fed a i);
       }
 
-  pub replaceable : {z : ℕ} → at H t ≢ 0 → FirstFed z F j → z ≢ slots → CanReplace F R H t j z
-  replaceable {z} h a i =
-      let l : z < slots = omega (arith, a .within) in record { ask = p; some = omega arith; from = l; has = a .found l }
+  pub replace-first : {z : ℕ} → 0 < at H t → FirstFed z F j → z ≢ slots → CanReplace F R H t j z
+  replace-first {z} h a i =
+      let l : z < slots = omega (arith, a .within) in record { ask = p; some = h; from = l; has = a .found l }
+
+  pub replace-partner : {z : ℕ} → at H t ≢ 0 → Partner z F R t j → z < slots → CanReplace F R H t j z
+  replace-partner h a l = record { ask = p; some = omega arith; from = l; has = a .has l }
 
 -- `feed` ----------------------------------------------------------------------
 

@@ -8,7 +8,6 @@ pub mod Calls
 pub mod Theorems
 pub mod Text
 pub mod Meanings
-pub mod Days
 -- What the words hold, as the layers above see them
 pub mod Represents
 pub mod CellChoice
@@ -49,5 +48,6 @@ pub mod HeldSteps
 pub mod ExactlyLaws
 pub mod CellWordLaws
 pub mod CellSearchLaws
+pub mod CellMayLaws
 pub mod CellChoiceLaws
 pub mod ScheduleWordLaws

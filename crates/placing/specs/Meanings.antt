@@ -1,4 +1,4 @@
--- Whoever says `unfolding meanings` has every definition of this layer computed, and those by which a sheet's bytes are read: for tables of
+-- Whoever says `unfolding answers` has every definition of this layer computed, and those by which a sheet's bytes are read: for tables of
 -- days. Assumes nothing.
 use Rattle.sheet.specs.Field.{isDigit, digits, zeroAlone, decimal, parse, numberOf, isFaulty}
 use Rattle.sheet.specs.Sheet.{lineCount, lineAt, fieldAt, valueAt, faultyFrom, faultyLine, jobAt, sheetOf}

@@ -18,7 +18,7 @@ use Rattle.placing.specs.Schedules.{Demand, Schedule, Windows, Sound}
 use Rattle.placing.specs.Schedules.{load as loadOf}
 use Rattle.placing.specs.AsFunctions.{fed, listed, Rows, load-as}
 use Rattle.placing.specs.Tabulate.{tab-unique}
-use Rattle.placing.specs.CellChoice.{RowWord, ScheduleWords, Decided, FedBit}
+use Rattle.placing.specs.CellChoice.{RowWord, ScheduleWords, Decided, MayFeed, FedBit}
 
 -- a number below 2 ^ j does not have the bit j
 pub bit-below : (w j : ℕ) → w < 2 ^ j → bit w j ≡ 0
@@ -48,13 +48,13 @@ module _ {j w : ℕ} {s : ℕ → Bool} (r : RowWord j w s) where
 
 -- `feed_bit` ------------------------------------------------------------------
 
-module _ {r : Bool} {F R H F′ R′ H′ : List ℕ} {t j : ℕ} (d : Decided r F R H F′ R′ H′ t j) (w : ℕ) (new : w < 2 ^ j) where
-  pub fed-bit-yes : r ≡ true → {x : ℕ} → x ≡ w + 2 ^ j → FedBit w x F R H F′ R′ H′ t j
+module _ {r : Bool} {F R H F′ R′ H′ : List ℕ} {t j m : ℕ} (d : Decided r F R H F′ R′ H′ t j × MayFeed m t F′ R′) (w : ℕ) (new : w < 2 ^ j) where
+  pub fed-bit-yes : r ≡ true → {x : ℕ} → x ≡ w + 2 ^ j → FedBit w x m F R H F′ R′ H′ t j
   fed-bit-yes e i =
-      record { answer = r; decided = d; few = omega (arith, pow-succ' 2 j); row = λ s q k. rw i (row-fed k (q ∙ e)) }
+      record { answer = r; may = d .1; decided = d .0; few = omega (arith, pow-succ' 2 j); row = λ s q k. rw i (row-fed k (q ∙ e)) }
 
-  pub fed-bit-no : r ≡ false → FedBit w w F R H F′ R′ H′ t j
-  fed-bit-no e = record { answer = r; decided = d; few = omega (arith, pow-succ' 2 j); row = λ s q k. row-not-fed k (q ∙ e) }
+  pub fed-bit-no : r ≡ false → FedBit w w m F R H F′ R′ H′ t j
+  fed-bit-no e = record { answer = r; may = d .1; decided = d .0; few = omega (arith, pow-succ' 2 j); row = λ s q k. row-not-fed k (q ∙ e) }
 
 -- The whole grid ---------------------------------------------------------------
 

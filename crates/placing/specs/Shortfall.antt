@@ -47,6 +47,6 @@ greatest slots value q = every (map (λ r. leZ (value r) (value q)) (subsets slo
 unfoldable pub inEveryGreatest : (slots : ℕ) → (Slots → ℤ) → Slots
 inEveryGreatest slots value = foldr meet (replicate slots true) (keep (greatest slots value) (subsets slots))
 
--- the minimal critical set: contained in every set of greatest shortfall
+-- Q of document 01: the set contained in every set of greatest shortfall (not the critical set of document 000, definition 15)
 unfoldable pub criticalSet : (slots : ℕ) → List Demand → (high : List ℕ) → Slots
 criticalSet slots ds high = inEveryGreatest slots (shortfall ds high)

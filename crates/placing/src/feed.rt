@@ -1,7 +1,12 @@
 // The choice of feedings, one cell at a time: whether ration j is fed in slot t, all choices made before kept. The words hold one placing of what is left;
-// a cell that is decided is in neither word any more. `high` has the load of each slot.
+// a cell that is decided is in neither word any more. `high` has the load of each slot. `may` has the rations that can still be fed in slot t, and perhaps
+// others: most answers need no search.
 ghost use mathlib.Core.Path.{_≡_};
-ghost use Rattle.placing.specs.CellChoice.{CanFeed, Decided, CanFind, FirstFed, CanAsk, CanReplace, Answered, CanFeedBit, FedBit};
+ghost use Prim.Native.Nat.{_<_};
+ghost use Rattle.grid.specs.Grid.{at};
+ghost use Rattle.placing.specs.CellChoice.{CanFeed, Decided, MayFeed, CanFind, FirstFed, CanAsk, CanReplace, Answered, Replaced, CanFeedBit, FedBit};
+use crate::candidates;
+use crate::exchange;
 use grid::bits;
 use grid::search;
 
@@ -19,7 +24,7 @@ fn first_fed(fed: &[u64; 96], j: u32) -> usize
 }
 
 // Takes the feeding of ration j out of slot z and looks for a chain of moves from slot t, one of whose feedings is then ration j's, to slot z. Where there is
-// none, the feeding stays.
+// none, the feeding stays. The marks are left on a set of slots around t that no ration fed in it can leave.
 fn feed_instead(
     fed: &mut [u64; 96],
     rest: &mut [u64; 96],
@@ -30,8 +35,8 @@ fn feed_instead(
     z: usize,
 ) -> bool
     requires { ⌜ CanReplace (now fed) (now rest) (now high) t j z ⌝ }
-    ensures { λ r. ⌜ Answered r (now (fed .entry)) (now (rest .entry)) (now (high .entry))
-        (now (fed .exit)) (now (rest .exit)) (now (high .exit)) t j ⌝ }
+    ensures { λ r. ⌜ Replaced r (now (fed .entry)) (now (rest .entry)) (now (high .entry))
+        (now (fed .exit)) (now (rest .exit)) (now (high .exit)) (now (seen .exit)) t j ⌝ }
 {
     let f = fed[z];
     let r = rest[z];
@@ -40,9 +45,10 @@ fn feed_instead(
     fed[z] = a;
     rest[z] = b;
     *seen = [0; 96];
-    if search::push(fed, rest, high, seen, t) {
+    if search::push_along(fed, rest, high, seen, t) {
         let h = high[t];
         high[t] = h - 1;
+        *seen = [1; 96];
         return true;
     }
     fed[z] = f;
@@ -50,27 +56,58 @@ fn feed_instead(
     false
 }
 
-// Whether ration j, which rested in slot t, can be fed there: without a search where the slot is full or the volume used up.
+// Whether ration j, which rested in slot t, can be fed there, by a search.
+fn feed_along(
+    fed: &mut [u64; 96],
+    rest: &mut [u64; 96],
+    high: &mut [u8; 96],
+    seen: &mut [u8; 96],
+    may: &mut u64,
+    t: usize,
+    j: u32,
+) -> bool
+    requires { ⌜ CanAsk (now fed) (now rest) (now high) t j × (0 < at (now high) t) × MayFeed (now may) t (now fed) (now rest) ⌝ }
+    ensures { λ r. ⌜ Answered r (now (fed .entry)) (now (rest .entry)) (now (high .entry)) (now (fed .exit)) (now (rest .exit)) (now (high .exit)) t j
+        × MayFeed (now (may .exit)) t (now (fed .exit)) (now (rest .exit)) ⌝ }
+{
+    let z = first_fed(fed, j);
+    if z == 96 {
+        return false;
+    }
+    let yes = feed_instead(fed, rest, high, seen, t, j, z);
+    let word = candidates::fed_marked(fed, seen);
+    *may = word;
+    yes
+}
+
+// Whether ration j, which rested in slot t, can be fed there: without a search where the slot is full, where the ration is known not to, or where an
+// exchange with one slot does it.
 fn feed_resting(
     fed: &mut [u64; 96],
     rest: &mut [u64; 96],
     high: &mut [u8; 96],
     seen: &mut [u8; 96],
+    may: &mut u64,
     t: usize,
     j: u32,
 ) -> bool
-    requires { ⌜ CanAsk (now fed) (now rest) (now high) t j ⌝ }
-    ensures { λ r. ⌜ Answered r (now (fed .entry)) (now (rest .entry)) (now (high .entry))
-        (now (fed .exit)) (now (rest .exit)) (now (high .exit)) t j ⌝ }
+    requires { ⌜ CanAsk (now fed) (now rest) (now high) t j × MayFeed (now may) t (now fed) (now rest) ⌝ }
+    ensures { λ r. ⌜ Answered r (now (fed .entry)) (now (rest .entry)) (now (high .entry)) (now (fed .exit)) (now (rest .exit)) (now (high .exit)) t j
+        × MayFeed (now (may .exit)) t (now (fed .exit)) (now (rest .exit)) ⌝ }
 {
     if high[t] == 0 {
         return false;
     }
-    let z = first_fed(fed, j);
-    if z == 96 {
+    let word = *may;
+    if !bits::has_bit(word, j) {
         return false;
     }
-    feed_instead(fed, rest, high, seen, t, j, z)
+    let z = exchange::partner(fed, rest, high, t, j);
+    if z < 96 {
+        exchange::swap(fed, rest, high, t, j, z);
+        return true;
+    }
+    feed_along(fed, rest, high, seen, may, t, j)
 }
 
 // Decides whether ration j is fed in slot t: some placing of what is left, with the same load in each slot, does so. At most one search.
@@ -79,12 +116,13 @@ pub fn feed(
     rest: &mut [u64; 96],
     high: &mut [u8; 96],
     seen: &mut [u8; 96],
+    may: &mut u64,
     t: usize,
     j: u32,
 ) -> bool
-    requires { ⌜ CanFeed (now fed) (now rest) (now high) t j ⌝ }
-    ensures { λ r. ⌜ Decided r (now (fed .entry)) (now (rest .entry)) (now (high .entry))
-        (now (fed .exit)) (now (rest .exit)) (now (high .exit)) t j ⌝ }
+    requires { ⌜ CanFeed (now fed) (now rest) (now high) t j × MayFeed (now may) t (now fed) (now rest) ⌝ }
+    ensures { λ r. ⌜ Decided r (now (fed .entry)) (now (rest .entry)) (now (high .entry)) (now (fed .exit)) (now (rest .exit)) (now (high .exit)) t j
+        × MayFeed (now (may .exit)) t (now (fed .exit)) (now (rest .exit)) ⌝ }
 {
     let f = fed[t];
     if bits::has_bit(f, j) {
@@ -100,7 +138,7 @@ pub fn feed(
     }
     let b = bits::drop_bit(r, j);
     rest[t] = b;
-    feed_resting(fed, rest, high, seen, t, j)
+    feed_resting(fed, rest, high, seen, may, t, j)
 }
 
 // Decides the same, and gives the word of the slot's choices with this one as bit j.
@@ -109,15 +147,16 @@ pub fn feed_bit(
     rest: &mut [u64; 96],
     high: &mut [u8; 96],
     seen: &mut [u8; 96],
+    may: &mut u64,
     t: usize,
     j: u32,
     word: u64,
 ) -> u64
-    requires { ⌜ CanFeedBit word (now fed) (now rest) (now high) t j ⌝ }
-    ensures { λ r. ⌜ FedBit word r (now (fed .entry)) (now (rest .entry)) (now (high .entry))
+    requires { ⌜ CanFeedBit word (now may) (now fed) (now rest) (now high) t j ⌝ }
+    ensures { λ r. ⌜ FedBit word r (now (may .exit)) (now (fed .entry)) (now (rest .entry)) (now (high .entry))
         (now (fed .exit)) (now (rest .exit)) (now (high .exit)) t j ⌝ }
 {
-    if feed(fed, rest, high, seen, t, j) {
+    if feed(fed, rest, high, seen, may, t, j) {
         return bits::add_bit(word, j);
     }
     word

@@ -34,8 +34,8 @@ mul-rest c = search needs
 element-write-rest : tie.Need-element-write-rest
 element-write-rest c = search needs
 
-push-requires : tie.Need-push-requires
-push-requires c κs = replace-push (c .before .before .before .before .before .before .before .before .before .pre) _ _ (c .before .before .before .before .before .before .drop-bit .ensures) (c .before .before .before .before .before .add-bit .ensures)
+push-along-requires : tie.Need-push-along-requires
+push-along-requires c κs = replace-push (c .before .before .before .before .before .before .before .before .before .pre) _ _ (c .before .before .before .before .before .before .drop-bit .ensures) (c .before .before .before .before .before .add-bit .ensures)
 
 element-copy-out-h : tie.Need-element-copy-out-h
 element-copy-out-h c = search needs
@@ -47,7 +47,7 @@ element-write-high : tie.Need-element-write-high
 element-write-high c = search needs
 
 returns : tie.Need-returns
-returns c = replaced-yes (c .before .before .before .before .before .before .before .before .before .before .before .before .pre) _ _ (c .before .before .before .before .before .before .before .before .before .drop-bit .ensures) (c .before .before .before .before .before .before .before .before .add-bit .ensures) (c .before .before .push .ensures) (c .before .if1 .taken)
+returns c = replaced-yes (c .before .before .before .before .before .before .before .before .before .before .before .before .before .pre) _ _ (c .before .before .before .before .before .before .before .before .before .before .drop-bit .ensures) (c .before .before .before .before .before .before .before .before .before .add-bit .ensures) (c .before .before .before .push-along .ensures) (c .before .before .if1 .taken)
 
 mul-fed-2 : tie.Need-mul-fed-2
 mul-fed-2 c = search needs
@@ -62,7 +62,7 @@ element-write-rest-2 : tie.Need-element-write-rest-2
 element-write-rest-2 c = search needs
 
 returns-2 : tie.Need-returns-2
-returns-2 c = replaced-no (c .before .before .before .before .before .before .before .before .before .before .before .pre) _ _ (c .before .before .before .before .before .before .before .before .drop-bit .ensures) (c .before .before .before .before .before .before .before .add-bit .ensures) (c .before .push .ensures) (c .if1 .left)
+returns-2 c = replaced-no (c .before .before .before .before .before .before .before .before .before .before .before .pre) _ _ (c .before .before .before .before .before .before .before .before .drop-bit .ensures) (c .before .before .before .before .before .before .before .add-bit .ensures) (c .before .push-along .ensures) (c .if1 .left)
 
 pub feed-instead-spec : {M : Type 1} → statement M
 feed-instead-spec =
@@ -78,7 +78,7 @@ feed-instead-spec =
     element-write-fed
     mul-rest
     element-write-rest
-    push-requires
+    push-along-requires
     element-copy-out-h
     sub-high
     element-write-high

@@ -1,5 +1,9 @@
 -- `placing::feed::feed_resting` meets its contract. Assumes nothing.
-use Rattle.placing.specs.CellChoiceLaws.{answered-full, answered-nowhere, replaceable}
+use mathlib.Core.Path.{sym, _∙_}
+use native.Mathlib.Omega.{arith}
+use borrow.Author.Tests.{eqb-false, not-true}
+use Rattle.placing.specs.CellChoiceLaws.{answered-full, replace-partner}
+use Rattle.placing.specs.CellMayLaws.{answered-not-may}
 use borrow.Author.Needs.{needs}
 use Rattle.placing.proofs.feed.feed_resting.Statement.{statement}
 use Rattle.placing.proofs.feed.feed_resting.Tie as tie
@@ -8,19 +12,30 @@ element-copy-out-if1 : tie.Need-element-copy-out-if1
 element-copy-out-if1 c = search needs
 
 returns : tie.Need-returns
-returns c = answered-full (c .before .before .pre) (c .if1 .taken)
+returns c = (answered-full (c .before .before .pre .0) (c .if1 .taken), c .before .before .pre .1)
 
-first-fed-requires : tie.Need-first-fed-requires
-first-fed-requires c κs = search needs
+has-bit-requires : tie.Need-has-bit-requires
+has-bit-requires c κs = search needs
 
 returns-2 : tie.Need-returns-2
-returns-2 c = answered-nowhere (c .before .before .before .before .before .pre) (c .before .first-fed .ensures) (c .if2 .taken)
+returns-2 c = (answered-not-may (c .before .before .before .before .before .pre .0) (c .before .before .before .before .before .pre .1) (eqb-false _ _ (sym (c .before .has-bit .ensures) ∙ not-true _ (c .if2 .taken))), c .before .before .before .before .before .pre .1)
 
-feed-instead-requires : tie.Need-feed-instead-requires
-feed-instead-requires c κs = replaceable (c .before .before .before .before .before .before .before .before .before .pre) (c .before .before .before .before .before .before .before .if1 .left) (c .before .before .before .before .before .first-fed .ensures) (c .before .before .before .before .if2 .left)
+partner-requires : tie.Need-partner-requires
+partner-requires c κs = search needs
+
+swap-requires : tie.Need-swap-requires
+swap-requires c κs =
+    let k = c .before .before .before .before .partner .ensures in
+    (replace-partner (c .before .before .before .before .before .before .before .before .before .before .before .before .before .pre .0) (c .before .before .before .before .before .before .before .before .before .before .before .if1 .left) k (omega (arith, c .before .before .before .if3 .taken)), k .edge (omega (arith, c .before .before .before .if3 .taken)))
 
 returns-3 : tie.Need-returns-3
-returns-3 c = search needs
+returns-3 c = (c .swap .ensures .answer, c .swap .ensures .may _ (c .before .before .before .before .before .before .before .before .before .before .before .before .before .before .pre .1))
+
+feed-along-requires : tie.Need-feed-along-requires
+feed-along-requires c κs = search needs
+
+returns-4 : tie.Need-returns-4
+returns-4 c = search needs
 
 pub feed-resting-spec : {M : Type 1} → statement M
 feed-resting-spec =
@@ -28,7 +43,10 @@ feed-resting-spec =
     (tie.spec
     element-copy-out-if1
     returns
-    first-fed-requires
+    has-bit-requires
     returns-2
-    feed-instead-requires
-    returns-3)
+    partner-requires
+    swap-requires
+    returns-3
+    feed-along-requires
+    returns-4)
