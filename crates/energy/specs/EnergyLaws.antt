@@ -128,7 +128,7 @@ starts-le m q counts =
     sum-range-le (λ k. startsOf q (intervals counts k)) (suc (length counts) / 2) (λ k. omega (arith, startsOf-le q counts k)) 1 m
 
 -- The starts and the energy of every sheet's day: at most 8 blowers, 96 slots and a wake cost of 200.
-module _ (m q : ℕ) (counts : List ℕ) (few : m ≤ 8) (cheap : q ≤ 200) (day : length counts ≤ 96) where
+module _ (m q : ℕ) (counts : List ℕ) (few : m ≤ 8) (wake-most : q ≤ 200) (day : length counts ≤ 96) where
   pub starts-most : starts m q counts ≤ 384
   starts-most = omega (arith, starts-le m q counts, mul-le-mul few (half (length counts) day))
     where
@@ -137,4 +137,4 @@ module _ (m q : ℕ) (counts : List ℕ) (few : m ≤ 8) (cheap : q ≤ 200) (da
 
   pub energy-most : energy m q counts ≤ 768 + 200 * 384
   unfolding energy
-  energy-most = omega (arith, on-le m q counts, mul-le-mul few day, mul-le-mul cheap starts-most)
+  energy-most = omega (arith, on-le m q counts, mul-le-mul few day, mul-le-mul wake-most starts-most)

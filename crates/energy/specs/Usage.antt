@@ -23,4 +23,4 @@ pub record Day (counts : List ℕ) (slots : ℕ) : Type 0 where
 pub record CanCharge (counts : List ℕ) (slots blowers wake : ℕ) : Type 0 where
   pub counted : Day counts slots
   pub few : blowers ≤ 8
-  pub cheap : wake ≤ 200
+  pub wake-most : wake ≤ 200

@@ -192,4 +192,4 @@ pub record Small (m q used started : ℕ) : Type 0 where
 pub charge-le : {m q : ℕ} {counts : List ℕ} {slots done used started : ℕ} → CanCharge counts slots m q → UsedBy m q counts slots done used started → Small m q used started
 charge-le {started = started} h u =
     let s : started ≤ 768 = omega (arith, h .few, u .starts-few, u .in-range) in
-    record { on = omega (arith, h .few, u .on-few, u .in-range); starts = s; charge = mul-le-mul (h .cheap) s }
+    record { on = omega (arith, h .few, u .on-few, u .in-range); starts = s; charge = mul-le-mul (h .wake-most) s }

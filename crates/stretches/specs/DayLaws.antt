@@ -17,7 +17,7 @@ use Rattle.placing.specs.HeldSteps.{full-words, length-full}
 use Rattle.placing.specs.CellChoice.{Feedable, ScheduleWords}
 use Rattle.placing.specs.ExactlyLaws.{represents-feedable}
 use Rattle.stretches.specs.declared.Day.{Day}
-use Rattle.stretches.specs.Method.{Bounds, dayBounds, Possible, settleAll, loads}
+use Rattle.stretches.specs.Method.{Bounds, dayBounds, FeasibleDay, settleAll, loads}
 use Rattle.stretches.specs.Feedings.{chosen}
 use Rattle.stretches.specs.Slotwise.{settleEach}
 use Rattle.stretches.specs.Settling.{Under, SomeDay, AllSettled}
@@ -31,7 +31,7 @@ use Rattle.stretches.specs.Days.{CanChooseDay, DayChosen, DayPlanned}
 module _ (slots m : ℕ) {F R H C F₁ R₁ H₁ C₁ : List ℕ} (a : AllSettled slots m F R H C F₁ R₁ H₁ C₁) where
   -- the bounds that are settled have one count for each slot
   module _ (ds : List Demand) (b : Bounds) (u : Under slots ds b F R H C) (below : (t : ℕ) → t < slots → getD (b .high) t 0 ≤ m) where
-    possible : Possible slots ds b
+    possible : FeasibleDay slots ds b
     possible = under-possible u
 
     settled : settleAll slots ds m b ≡ settleEach slots ds m b

@@ -11,18 +11,20 @@ use lib.Seq.{getD-set-same, getD-set-other}
 use Rattle.placing.specs.Schedules.{Demand}
 use Rattle.placing.specs.AsFunctions.{fed}
 use Rattle.placing.specs.Represents.{Represents}
-use Rattle.placing.specs.CellChoice.{Feedable, CanFeedBit, FedBit, RowWord, ScheduleWords}
+use Rattle.placing.specs.CellChoice.{Feedable, MayFeed, FedMarked, CanFeedBit, FedBit, RowWord, ScheduleWords}
 use Rattle.placing.specs.CellWordLaws.{at-zeros}
+use Rattle.placing.specs.CellMayLaws.{may-start}
 use Rattle.stretches.specs.Feedings.{chosen}
 use Rattle.stretches.specs.FeedingState.{Choosing, choosing-first, choosing-next-row, choosing-answer, choosing-next}
 use Rattle.stretches.specs.FeedingCalls.{CanChooseSlot, ChoseSlot, CanChoose, Chose}
 
 -- `choose_slot` ---------------------------------------------------------------
 
--- after j rations of slot t, from the words F₀, R₀, H₀
-pub record InSlot (F₀ R₀ H₀ F R H : List ℕ) (t rations w j : ℕ) : Type 0 where
+-- after j rations of slot t, from the words F₀, R₀, H₀; m has the rations that may still be fed in it
+pub record InSlot (F₀ R₀ H₀ F R H : List ℕ) (t rations w m j : ℕ) : Type 0 where
   pub within : j ≤ rations
   pub words : Feedable F R H
+  pub may : MayFeed m t F R
   pub few : w < 2 ^ j
   pub row : (slots : ℕ) (ds : List Demand) (counts : List ℕ) → length ds ≡ rations → t < slots → Choosing slots ds counts t 0 F₀ R₀ H₀
       → RowWord j w (λ i. fed (chosen slots ds counts) i t)
@@ -30,25 +32,27 @@ pub record InSlot (F₀ R₀ H₀ F R H : List ℕ) (t rations w j : ℕ) : Type
       → Choosing slots ds counts t j F R H
 
 module _ {F₀ R₀ H₀ : List ℕ} {t rations : ℕ} (p : CanChooseSlot F₀ R₀ H₀ t rations) where
-  pub in-slot-start : InSlot F₀ R₀ H₀ F₀ R₀ H₀ t rations 0 0
-  in-slot-start =
+  pub in-slot-start : {m : ℕ} → FedMarked m F₀ (replicate 96 1) → InSlot F₀ R₀ H₀ F₀ R₀ H₀ t rations 0 m 0
+  in-slot-start a =
       record {
         within = omega arith;
         words = p .words;
+        may = may-start (p .words .grid) (p .slot) a;
         few = omega arith;
         row = λ slots ds counts e l s. record { few = omega arith; bits = λ i k. absurd (not-suc-le-zero k) };
         state = λ slots ds counts e l s. s;
       }
 
-  module _ {F R H : List ℕ} {w j : ℕ} (a : InSlot F₀ R₀ H₀ F R H t rations w j) where
-    pub in-slot-feed : j < rations → CanFeedBit w F R H t j
-    in-slot-feed k = record { feed = record { words = a .words; slot = p .slot; ration = omega (arith, p .few) }; new = a .few }
+  module _ {F R H : List ℕ} {w m j : ℕ} (a : InSlot F₀ R₀ H₀ F R H t rations w m j) where
+    pub in-slot-feed : j < rations → CanFeedBit w m F R H t j
+    in-slot-feed k = record { feed = record { words = a .words; slot = p .slot; ration = omega (arith, p .few) }; new = a .few; may = a .may }
 
-    pub in-slot-next : {r : ℕ} {F′ R′ H′ : List ℕ} → j < rations → FedBit w r F R H F′ R′ H′ t j → InSlot F₀ R₀ H₀ F′ R′ H′ t rations r (j + 1)
-    in-slot-next {r} {F′} {R′} {H′} k b =
+    pub in-slot-next : {r m′ : ℕ} {F′ R′ H′ : List ℕ} → j < rations → FedBit w r m′ F R H F′ R′ H′ t j → InSlot F₀ R₀ H₀ F′ R′ H′ t rations r m′ (j + 1)
+    in-slot-next k b =
         rw add-one (record {
           within = k;
           words = b .decided .words;
+          may = b .may;
           few = b .few;
           row = λ slots ds counts e l s.
               b .row (λ i. fed (chosen slots ds counts) i t)

@@ -12,7 +12,7 @@ use lib.ListN.{length, getD}
 use borrow.Author.Tests.{leb-true, leb-false}
 use Rattle.placing.specs.Schedules.{Demand, Schedule, Windows, load}
 use Rattle.placing.specs.Tabulate.{getD-map-below}
-use Rattle.stretches.specs.Method.{Bounds, Possible}
+use Rattle.stretches.specs.Method.{Bounds, FeasibleDay}
 use Rattle.stretches.specs.Intervals.{Interval, intervals, busyIn, LongestRun}
 use Rattle.stretches.specs.Keeping.{Meets, Keeps, Carries, noSlots, withNoSlots, stretches, KeepsBefore}
 use Rattle.stretches.specs.Slotwise.{keepAt, busyAt, busyFrom, settleFrom, settleEach}
@@ -75,7 +75,7 @@ stretch-kept counts k v m = go (stretch-cases counts k v m)
 
 module _ {slots : ℕ} {ds : List Demand} (w : Windows slots ds) (k : ℕ) {p : Schedule} where
   -- a sound placing that keeps to every choice of the blower is sound under the bounds it leaves
-  pub settleFrom-sound : (busy : Bool) (n t : ℕ) {b : Bounds} → Possible slots ds b → t + n ≡ slots → SoundUnder slots ds b p
+  pub settleFrom-sound : (busy : Bool) (n t : ℕ) {b : Bounds} → FeasibleDay slots ds b → t + n ≡ slots → SoundUnder slots ds b p
       → ((i : ℕ) → i < n → Meets (load slots p) k (getD (busyFrom slots ds k busy n t b) i false) (t + i))
       → SoundUnder slots ds (settleFrom slots ds k busy n t b) p
   unfolding settleFrom busyFrom
@@ -90,7 +90,7 @@ module _ {slots : ℕ} {ds : List Demand} (w : Windows slots ds) (k : ℕ) {p : 
       later i l = let there : t + suc i ≡ suc t + i = omega arith in rw there at (m (suc i) (omega arith))
 
   -- one that keeps to every choice before slot t + i + 1, in which the blower changes over, does not go on as before in that slot
-  pub change-unsound : (busy : Bool) (n t : ℕ) {b : Bounds} → Possible slots ds b → t + n ≡ slots → SoundUnder slots ds b p → (i : ℕ) → i < n
+  pub change-unsound : (busy : Bool) (n t : ℕ) {b : Bounds} → FeasibleDay slots ds b → t + n ≡ slots → SoundUnder slots ds b p → (i : ℕ) → i < n
       → ((j : ℕ) → j < i → Meets (load slots p) k (getD (busyFrom slots ds k busy n t b) j false) (t + j))
       → getD (busyFrom slots ds k busy n t b) i false ≡ not (getD (busy ∷ busyFrom slots ds k busy n t b) i false)
       → Meets (load slots p) k (getD (busy ∷ busyFrom slots ds k busy n t b) i false) (t + i) → ⊥
@@ -122,7 +122,7 @@ module _ (slots : ℕ) (ds : List Demand) (k : ℕ) (b : Bounds) where
   firstBusy = busyFrom slots ds (suc k) false slots 0 b
 
 module _ {slots : ℕ} {ds : List Demand} (w : Windows slots ds) {p : Schedule} where
-  module _ (k : ℕ) {b : Bounds} (h : Possible slots ds b) (s : SoundUnder slots ds b p) where
+  module _ (k : ℕ) {b : Bounds} (h : FeasibleDay slots ds b) (s : SoundUnder slots ds b p) where
     each : length (countsOf slots ds k b) ≡ slots
     each = settleEach-possible w (suc k) h .sized .each-low
 
@@ -198,7 +198,7 @@ module _ {slots : ℕ} {ds : List Demand} (w : Windows slots ds) {p : Schedule} 
         go (inr (e, (i, x))) = without e (rw each at i) x
 
   -- for every blower
-  pub stretch-stops : (m : ℕ) {b : Bounds} → Possible slots ds b → SoundUnder slots ds b p → (k : ℕ) → 1 ≤ k → k ≤ m
+  pub stretch-stops : (m : ℕ) {b : Bounds} → FeasibleDay slots ds b → SoundUnder slots ds b p → (k : ℕ) → 1 ≤ k → k ≤ m
       → (v : Interval) → List·Memᴰ v (stretches (settleEach slots ds m b .low) k) → v .last < slots
       → KeepsBefore m (settleEach slots ds m b .low) (load slots p) k v → Carries (load slots p) k v → ⊥
   unfolding settleEach

@@ -17,6 +17,7 @@ pub mod SettledRunsLaws
 pub mod KeepingLaws
 pub mod IntervalLaws
 pub mod StepLaws
+pub mod AsWorded
 pub mod LongestLaws
 pub mod RunLaws
 pub mod Cases

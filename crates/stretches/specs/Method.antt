@@ -41,15 +41,15 @@ longest test (suc n) = elim (test (suc n)) [ true ↦ suc n | false ↦ longest 
 
 module _ (slots : ℕ) (ds : List Demand) where
   -- a sound placing exists under the bounds
-  abbrev pub possibleUnder : Bounds → Bool
-  possibleUnder b = feasible slots ds (b .low) (b .high)
+  abbrev pub feasibleUnder : Bounds → Bool
+  feasibleUnder b = feasible slots ds (b .low) (b .high)
 
   -- the longest run from slot t on, possibly none, for which blower k can be idle, and the longest for which it can be busy
   unfoldable pub idleRun : (k t : ℕ) → Bounds → ℕ
-  idleRun k t b = longest (λ n. possibleUnder (idleFor k t b n)) (suc slots - t)
+  idleRun k t b = longest (λ n. feasibleUnder (idleFor k t b n)) (suc slots - t)
 
   unfoldable pub busyRun : (k t : ℕ) → Bounds → ℕ
-  busyRun k t b = longest (λ n. possibleUnder (busyFor k t b n)) (suc slots - t)
+  busyRun k t b = longest (λ n. feasibleUnder (busyFor k t b n)) (suc slots - t)
 
   -- blower k from slot t on: idle for the longest run, then busy for the longest run, and so on to the last slot. Past it nothing changes, and each turn
   -- passes a slot, so that `slots` turns are enough.
@@ -78,6 +78,6 @@ pub record Sized (slots : ℕ) (b : Bounds) : Type 0 where
   pub each-high : length (b .high) ≡ slots
 
 -- an entry for each slot, and a sound placing exists
-pub record Possible (slots : ℕ) (ds : List Demand) (b : Bounds) : Type 0 where
+pub record FeasibleDay (slots : ℕ) (ds : List Demand) (b : Bounds) : Type 0 where
   pub sized : Sized slots b
-  pub possible : possibleUnder slots ds b ≡ true
+  pub possible : feasibleUnder slots ds b ≡ true

@@ -12,7 +12,7 @@ use borrow.Author.Tests.{le-leb, lt-leb}
 use Rattle.placing.specs.Schedules.{Demand, Schedule, Windows, load}
 use Rattle.placing.specs.Tabulate.{getD-map-below}
 use Rattle.placing.specs.AsFunctions.{length-load}
-use Rattle.stretches.specs.Method.{Bounds, Sized, Possible, settleAll, loads}
+use Rattle.stretches.specs.Method.{Bounds, Sized, FeasibleDay, settleAll, loads}
 use Rattle.stretches.specs.Slotwise.{keepAt, busyAt, busyFrom, settleFrom, settleEach}
 use Rattle.stretches.specs.StepLaws.{SoundUnder, Tighter, tighter-refl, tighter-trans, keepAt-tighter, possible-sound, busyAt-possible}
 use Rattle.stretches.specs.SlotwiseLaws.{settle-slotwise}
@@ -33,7 +33,7 @@ module _ {slots : ℕ} where
 
 module _ {slots : ℕ} {ds : List Demand} (w : Windows slots ds) where
   -- low is at most high, since a sound placing lies between them
-  pub low-le-high : {b : Bounds} → Possible slots ds b → (t : ℕ) → t < slots → getD (b .low) t 0 ≤ getD (b .high) t 0
+  pub low-le-high : {b : Bounds} → FeasibleDay slots ds b → (t : ℕ) → t < slots → getD (b .low) t 0 ≤ getD (b .high) t 0
   low-le-high h t l = let r = possible-sound w h in omega (arith, r .1 .bounded t l)
 
   -- One blower ----------------------------------------------------------------
@@ -49,13 +49,13 @@ module _ {slots : ℕ} {ds : List Demand} (w : Windows slots ds) where
     settleFrom-tighter busy zero t b = tighter-refl
     settleFrom-tighter busy (suc n) t b = tighter-trans (keepAt-tighter k (busyAt slots ds k busy t b) t b) (settleFrom-tighter _ n (suc t) _)
 
-    pub settleFrom-possible : (busy : Bool) (n t : ℕ) {b : Bounds} → Possible slots ds b → t + n ≡ slots → Possible slots ds (settleFrom slots ds k busy n t b)
+    pub settleFrom-possible : (busy : Bool) (n t : ℕ) {b : Bounds} → FeasibleDay slots ds b → t + n ≡ slots → FeasibleDay slots ds (settleFrom slots ds k busy n t b)
     unfolding settleFrom
     settleFrom-possible busy zero t h e = h
     settleFrom-possible busy (suc n) t h e = settleFrom-possible _ n (suc t) (busyAt-possible w k busy t h (omega arith)) (omega arith)
 
     -- each slot is decided as the blower chooses in it
-    pub settleFrom-decided : (busy : Bool) (n t : ℕ) {b : Bounds} → Possible slots ds b → t + n ≡ slots → (i : ℕ) → i < n
+    pub settleFrom-decided : (busy : Bool) (n t : ℕ) {b : Bounds} → FeasibleDay slots ds b → t + n ≡ slots → (i : ℕ) → i < n
         → Decided k (getD (busyFrom slots ds k busy n t b) i false) (t + i) (settleFrom slots ds k busy n t b)
     unfolding settleFrom busyFrom
     settleFrom-decided busy zero t h e i l = absurd (omega arith)
@@ -69,13 +69,13 @@ module _ {slots : ℕ} {ds : List Demand} (w : Windows slots ds) where
 
   -- All blowers ---------------------------------------------------------------
 
-  pub settleAll-slotwise : (k : ℕ) {b : Bounds} → Possible slots ds b → settleAll slots ds k b ≡ settleEach slots ds k b
+  pub settleAll-slotwise : (k : ℕ) {b : Bounds} → FeasibleDay slots ds b → settleAll slots ds k b ≡ settleEach slots ds k b
   unfolding settleAll settleEach
   settleAll-slotwise zero h = refl
   settleAll-slotwise (suc k) {b} h =
       ap (settleAll slots ds k) (settle-slotwise w (suc k) h) ∙ settleAll-slotwise k (settleFrom-possible (suc k) false slots 0 h (omega arith))
 
-  pub loads-slotwise : (k : ℕ) {b : Bounds} → Possible slots ds b → loads slots ds k b ≡ settleEach slots ds k b .low
+  pub loads-slotwise : (k : ℕ) {b : Bounds} → FeasibleDay slots ds b → loads slots ds k b ≡ settleEach slots ds k b .low
   unfolding loads
   loads-slotwise k h = ap (λ (c : Bounds). c .low) (settleAll-slotwise k h)
 
@@ -84,13 +84,13 @@ module _ {slots : ℕ} {ds : List Demand} (w : Windows slots ds) where
   settleEach-tighter zero b = tighter-refl
   settleEach-tighter (suc k) b = tighter-trans (settleFrom-tighter (suc k) false slots 0 b) (settleEach-tighter k _)
 
-  pub settleEach-possible : (k : ℕ) {b : Bounds} → Possible slots ds b → Possible slots ds (settleEach slots ds k b)
+  pub settleEach-possible : (k : ℕ) {b : Bounds} → FeasibleDay slots ds b → FeasibleDay slots ds (settleEach slots ds k b)
   unfolding settleEach
   settleEach-possible zero h = h
   settleEach-possible (suc k) h = settleEach-possible k (settleFrom-possible (suc k) false slots 0 h (omega arith))
 
   -- at the end low equals high, where high began at most the number of blowers
-  settled-entry : (m : ℕ) {b : Bounds} → Possible slots ds b → (t : ℕ) → t < slots → getD (b .high) t 0 ≤ m
+  settled-entry : (m : ℕ) {b : Bounds} → FeasibleDay slots ds b → (t : ℕ) → t < slots → getD (b .high) t 0 ≤ m
       → getD (settleEach slots ds m b .low) t 0 ≡ getD (settleEach slots ds m b .high) t 0
   unfolding settleEach
   settled-entry zero h t l e = omega (arith, low-le-high h t l)
@@ -104,7 +104,7 @@ module _ {slots : ℕ} {ds : List Demand} (w : Windows slots ds) where
       here : 0 + t ≡ t
       here = omega arith
 
-      next : Possible slots ds c
+      next : FeasibleDay slots ds c
       next = settleFrom-possible (suc m) false slots 0 h (omega arith)
 
       go : (x : Bool) → Decided (suc m) x t c
@@ -120,7 +120,7 @@ module _ {slots : ℕ} {ds : List Demand} (w : Windows slots ds) where
             low-le-high (settleEach-possible m next) t l,
           )
 
-  pub settled-low-high : (m : ℕ) {b : Bounds} → Possible slots ds b → ((t : ℕ) → t < slots → getD (b .high) t 0 ≤ m)
+  pub settled-low-high : (m : ℕ) {b : Bounds} → FeasibleDay slots ds b → ((t : ℕ) → t < slots → getD (b .high) t 0 ≤ m)
       → settleEach slots ds m b .low ≡ settleEach slots ds m b .high
   settled-low-high m {b} h e =
       let z = settleEach-possible m h .sized in
@@ -128,7 +128,7 @@ module _ {slots : ℕ} {ds : List Demand} (w : Windows slots ds) where
       (λ t l. let i = rw (z .each-low) at l in settled-entry m h t i (e t i))
 
   -- the count of a slot is at least k exactly where blower k chose to be busy
-  pub counts-busyFrom : (k : ℕ) {b : Bounds} → Possible slots ds b
+  pub counts-busyFrom : (k : ℕ) {b : Bounds} → FeasibleDay slots ds b
       → map (leb (suc k)) (settleEach slots ds (suc k) b .low) ≡ busyFrom slots ds (suc k) false slots 0 b
   unfolding settleEach
   counts-busyFrom k {b} h =
@@ -144,7 +144,7 @@ module _ {slots : ℕ} {ds : List Demand} (w : Windows slots ds) where
       xs : List Bool
       xs = busyFrom slots ds (suc k) false slots 0 b
 
-      final : Possible slots ds d
+      final : FeasibleDay slots ds d
       final = settleEach-possible k (settleFrom-possible (suc k) false slots 0 h (omega arith))
 
       z : Sized slots d

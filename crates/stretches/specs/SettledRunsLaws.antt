@@ -7,7 +7,7 @@ use native.Mathlib.Omega.{arith}
 use lib.Dec.{leb}
 use borrow.Author.Tests.{leb-true, leb-false}
 use Rattle.placing.specs.Schedules.{Demand, Windows}
-use Rattle.stretches.specs.Method.{Bounds, Possible, idleFor, busyFor, idleRun, busyRun, possibleUnder, settle, settleAll, loads}
+use Rattle.stretches.specs.Method.{Bounds, FeasibleDay, idleFor, busyFor, idleRun, busyRun, feasibleUnder, settle, settleAll, loads}
 use Rattle.stretches.specs.Intervals.{Interval, join, runs, intervals}
 use Rattle.stretches.specs.Slotwise.{keepAt, busyFrom}
 use Rattle.stretches.specs.SettledRuns.{stretchOf, settledRuns, boundsAtTurn}
@@ -74,7 +74,7 @@ module _ (slots : ℕ) (ds : List Demand) (k : ℕ) where
 module _ {slots : ℕ} {ds : List Demand} (w : Windows slots ds) (k : ℕ) where
   module _ (busy : Bool) (turns t : ℕ) (b : Bounds) where
     -- a slot more is possible: it is joined to the run after it
-    alternateRuns-stays : t < slots → possibleUnder slots ds (keepAt k busy t b) ≡ true
+    alternateRuns-stays : t < slots → feasibleUnder slots ds (keepAt k busy t b) ≡ true
         → alternateRuns slots ds k busy (suc turns) (suc t) b
         ≡ stretchOf (suc t) (suc (run slots ds k busy (suc (suc t)) (keepAt k busy t b))) busy
         ++ alternateRuns slots ds k (not busy) turns (suc (suc t) + run slots ds k busy (suc (suc t)) (keepAt k busy t b))
@@ -105,19 +105,19 @@ module _ {slots : ℕ} {ds : List Demand} (w : Windows slots ds) (k : ℕ) where
   alternateRuns-past busy (suc turns) b = alternateRuns-none busy turns (suc slots) b (run-past w k busy b) ∙ alternateRuns-past (not busy) turns b
 
   -- the choices in the slots after a run that is empty begin with the other kind
-  busyFrom-differ : (busy : Bool) (n t : ℕ) {b : Bounds} → Possible slots ds b → t + n ≡ slots → run slots ds k busy (suc t) b ≡ 0
+  busyFrom-differ : (busy : Bool) (n t : ℕ) {b : Bounds} → FeasibleDay slots ds b → t + n ≡ slots → run slots ds k busy (suc t) b ≡ 0
       → Differs busy (runs (suc t) (busyFrom slots ds k busy n t b))
   unfolding runs busyFrom
   busyFrom-differ busy zero t h e z = tt
-  busyFrom-differ busy (suc n) t {b} h e z = go (possibleUnder slots ds (keepAt k busy t b)) refl
+  busyFrom-differ busy (suc n) t {b} h e z = go (feasibleUnder slots ds (keepAt k busy t b)) refl
     where
-      go : (x : Bool) → possibleUnder slots ds (keepAt k busy t b) ≡ x → Differs busy (runs (suc t) (busyFrom slots ds k busy (suc n) t b))
+      go : (x : Bool) → feasibleUnder slots ds (keepAt k busy t b) ≡ x → Differs busy (runs (suc t) (busyFrom slots ds k busy (suc n) t b))
       go true q = absurd (omega (arith, run-stays w k busy t b (omega arith) q))
       go false q = rw (busyAt-changes slots ds k busy t b q) (join-differs (suc t) busy _)
 
   -- the runs from a slot on that is kept are that slot joined to the runs after it
-  alternateRuns-join : (busy : Bool) (n turns t : ℕ) (b : Bounds) → Possible slots ds (keepAt k busy t b) → t + suc n ≡ slots
-      → possibleUnder slots ds (keepAt k busy t b) ≡ true
+  alternateRuns-join : (busy : Bool) (n turns t : ℕ) (b : Bounds) → FeasibleDay slots ds (keepAt k busy t b) → t + suc n ≡ slots
+      → feasibleUnder slots ds (keepAt k busy t b) ≡ true
       → alternateRuns slots ds k busy (suc turns) (suc (suc t)) (keepAt k busy t b) ≡ runs (suc (suc t)) (busyFrom slots ds k busy n (suc t) (keepAt k busy t b))
       → alternateRuns slots ds k busy (suc turns) (suc t) b ≡ join (suc t) busy (runs (suc (suc t)) (busyFrom slots ds k busy n (suc t) (keepAt k busy t b)))
   unfolding alternateRuns
@@ -137,7 +137,7 @@ module _ {slots : ℕ} {ds : List Demand} (w : Windows slots ds) (k : ℕ) where
       differs z =
           subst (Differs busy) (sym ih ∙ ap (λ i. stretchOf (suc (suc t)) i busy ++ rest) z) (busyFrom-differ busy n (suc t) h (omega arith) z)
 
-  alternateRuns-busyFrom : (busy : Bool) (n turns t : ℕ) {b : Bounds} → Possible slots ds b → t + n ≡ slots → n ≤ turns - 1
+  alternateRuns-busyFrom : (busy : Bool) (n turns t : ℕ) {b : Bounds} → FeasibleDay slots ds b → t + n ≡ slots → n ≤ turns - 1
       → alternateRuns slots ds k busy turns (suc t) b ≡ runs (suc t) (busyFrom slots ds k busy n t b)
   unfolding runs busyFrom
   alternateRuns-busyFrom busy zero turns t {b} h e m =
@@ -145,16 +145,16 @@ module _ {slots : ℕ} {ds : List Demand} (w : Windows slots ds) (k : ℕ) where
   alternateRuns-busyFrom busy (suc n) zero t h e m = absurd (omega arith)
   alternateRuns-busyFrom busy (suc n) (suc zero) t h e m = absurd (omega arith)
   alternateRuns-busyFrom busy (suc n) (suc (suc turns)) t {b} h e m =
-      go (possibleUnder slots ds (keepAt k busy t b)) refl (λ x r f. alternateRuns-busyFrom x n (suc r) (suc t) {b = keepAt k x t b} f (omega arith))
+      go (feasibleUnder slots ds (keepAt k busy t b)) refl (λ x r f. alternateRuns-busyFrom x n (suc r) (suc t) {b = keepAt k x t b} f (omega arith))
     where
       l : t < slots
       l = omega arith
 
-      keeps : (x : Bool) → possibleUnder slots ds (keepAt k x t b) ≡ true → Possible slots ds (keepAt k x t b)
+      keeps : (x : Bool) → feasibleUnder slots ds (keepAt k x t b) ≡ true → FeasibleDay slots ds (keepAt k x t b)
       keeps x q = record { sized = keepAt-sized k x t (h .sized); possible = q }
 
-      go : (x : Bool) → possibleUnder slots ds (keepAt k busy t b) ≡ x
-          → ((x : Bool) (r : ℕ) → Possible slots ds (keepAt k x t b) → n ≤ suc r - 1
+      go : (x : Bool) → feasibleUnder slots ds (keepAt k busy t b) ≡ x
+          → ((x : Bool) (r : ℕ) → FeasibleDay slots ds (keepAt k x t b) → n ≤ suc r - 1
           → alternateRuns slots ds k x (suc r) (suc (suc t)) (keepAt k x t b) ≡ runs (suc (suc t)) (busyFrom slots ds k x n (suc t) (keepAt k x t b)))
           → alternateRuns slots ds k busy (suc (suc turns)) (suc t) b ≡ runs (suc t) (busyFrom slots ds k busy (suc n) t b)
       go true q ih = rw (busyAt-stays slots ds k busy t b q) (alternateRuns-join busy n (suc turns) t b (keeps busy q) e q (ih busy (suc turns) (keeps busy q) (omega arith)))
@@ -163,7 +163,7 @@ module _ {slots : ℕ} {ds : List Demand} (w : Windows slots ds) (k : ℕ) where
           alternateRuns-none busy (suc turns) (suc t) b (run-changes w k busy t b (h .sized) q)
           ∙ rw (busyAt-changes slots ds k busy t b q) (alternateRuns-join (not busy) n turns t b (keeps (not busy) o) e o (ih (not busy) turns (keeps (not busy) o) (omega arith)))
 
-  settledRuns-busyFrom : {b : Bounds} → Possible slots ds b → settledRuns slots ds k slots 1 b ≡ runs 1 (busyFrom slots ds k false slots 0 b)
+  settledRuns-busyFrom : {b : Bounds} → FeasibleDay slots ds b → settledRuns slots ds k slots 1 b ≡ runs 1 (busyFrom slots ds k false slots 0 b)
   settledRuns-busyFrom {b} h =
       settledRuns-alternate slots ds k slots 1 b
       ∙ alternateRuns-busyFrom false slots (double slots) 0 h (omega arith) (omega (arith, double-is slots))
@@ -171,13 +171,13 @@ module _ {slots : ℕ} {ds : List Demand} (w : Windows slots ds) (k : ℕ) where
 -- All blowers -----------------------------------------------------------------
 
 module _ {slots : ℕ} {ds : List Demand} (w : Windows slots ds) where
-  pub intervals-settled : (m : ℕ) {b : Bounds} → Possible slots ds b → (k : ℕ) → 1 ≤ k → k ≤ m
+  pub intervals-settled : (m : ℕ) {b : Bounds} → FeasibleDay slots ds b → (k : ℕ) → 1 ≤ k → k ≤ m
       → intervals (loads slots ds m b) k ≡ settledRuns slots ds k slots 1 (boundsAtTurn slots ds m k b)
   unfolding loads settleAll boundsAtTurn intervals
   intervals-settled zero h k o l = absurd (omega arith)
   intervals-settled (suc m) {b} h k o l = go (leb k m) refl (intervals-settled m next k o)
     where
-      next : Possible slots ds (settle slots ds (suc m) slots 1 b)
+      next : FeasibleDay slots ds (settle slots ds (suc m) slots 1 b)
       next = rw (settle-slotwise w (suc m) h) (settleFrom-possible w (suc m) false slots 0 h (omega arith))
 
       go : (x : Bool) → leb k m ≡ x

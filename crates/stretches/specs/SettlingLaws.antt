@@ -8,13 +8,13 @@ use native.Mathlib.Omega.{arith}
 use Rattle.placing.specs.Schedules.{Demand}
 use Rattle.placing.specs.Represents.{Represents, Ready, Idled, Busied}
 use Rattle.placing.specs.StepLaws.{represents-feasible, represents-ready}
-use Rattle.stretches.specs.Method.{Bounds, Possible, possibleUnder}
+use Rattle.stretches.specs.Method.{Bounds, FeasibleDay, feasibleUnder}
 use Rattle.stretches.specs.Slotwise.{keepAt, busyAt, settleFrom, settleEach}
 use Rattle.stretches.specs.StepLaws.{other-possible, busyAt-stays, busyAt-changes}
 use Rattle.stretches.specs.Settling.{Under, SomeDay, SomeSlot, Stepped, Settled, AllSettled, Left, LeftBlowers, Passing, PassingBlowers}
 
 -- words that hold a day say that it has a sound placing
-pub under-possible : {slots : ℕ} {ds : List Demand} {b : Bounds} {F R H C : List ℕ} → Under slots ds b F R H C → Possible slots ds b
+pub under-possible : {slots : ℕ} {ds : List Demand} {b : Bounds} {F R H C : List ℕ} → Under slots ds b F R H C → FeasibleDay slots ds b
 under-possible u = record { sized = record { each-low = u .lows; each-high = u .highs }; possible = represents-feasible u }
 
 pub slot-ready : {t : ℕ} {F R H C : List ℕ} → SomeSlot t F R H C → Ready F R H C t
@@ -66,7 +66,7 @@ module _ {t k : ℕ} {F R H C : List ℕ} where
             slots ds (b .low) (b .high) v l;
       }
     where
-      cannot : (slots : ℕ) (ds : List Demand) (b : Bounds) → Under slots ds b F R H C → t < slots → possibleUnder slots ds (keepAt k false t b) ≡ false
+      cannot : (slots : ℕ) (ds : List Demand) (b : Bounds) → Under slots ds b F R H C → t < slots → feasibleUnder slots ds (keepAt k false t b) ≡ false
       cannot slots ds b u l = sym (i .answer slots ds (b .low) (b .high) u l) ∙ e
 
   -- it can't stay busy, and so it can be idle
@@ -81,7 +81,7 @@ module _ {t k : ℕ} {F R H C : List ℕ} where
             slots ds (b .low) (b .high) v l;
       }
     where
-      cannot : (slots : ℕ) (ds : List Demand) (b : Bounds) → Under slots ds b F R H C → t < slots → possibleUnder slots ds (keepAt k true t b) ≡ false
+      cannot : (slots : ℕ) (ds : List Demand) (b : Bounds) → Under slots ds b F R H C → t < slots → feasibleUnder slots ds (keepAt k true t b) ≡ false
       cannot slots ds b u l = sym (i .answer slots ds (b .low) (b .high) u l) ∙ e
 
 -- ---- the slots of a blower

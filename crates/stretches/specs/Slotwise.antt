@@ -6,7 +6,7 @@ use mathlib.Core.List.{List, [], _∷_}
 use Prim.Native.Nat.{ℕ, zero, suc, _-_, min, max}
 use lib.ListN.{getD, set}
 use Rattle.placing.specs.Schedules.{Demand}
-use Rattle.stretches.specs.Method.{Bounds, possibleUnder}
+use Rattle.stretches.specs.Method.{Bounds, feasibleUnder}
 
 -- blower k idle (false) or busy (true) in slot t + 1
 abbrev pub keepAt : (k : ℕ) (busy : Bool) (t : ℕ) → Bounds → Bounds
@@ -16,7 +16,7 @@ keepAt k true t b = record { low = set (b .low) t (max k (getD (b .low) t 0)); h
 module _ (slots : ℕ) (ds : List Demand) where
   -- what blower k does in slot t + 1: the same as before it if that is possible, else the other
   unfoldable pub busyAt : (k : ℕ) (busy : Bool) (t : ℕ) → Bounds → Bool
-  busyAt k busy t b = cond (possibleUnder slots ds (keepAt k busy t b)) busy (not busy)
+  busyAt k busy t b = cond (feasibleUnder slots ds (keepAt k busy t b)) busy (not busy)
 
   -- blower k in the n slots after slot t, up to which it is idle or busy
   unfoldable pub settleFrom : (k : ℕ) (busy : Bool) (n t : ℕ) → Bounds → Bounds

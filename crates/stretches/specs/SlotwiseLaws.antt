@@ -7,7 +7,7 @@ use mathlib.Core.List.{List}
 use Prim.Native.Nat.{ℕ, zero, suc, _+_, _-_, _≤_, _<_, min, max}
 use native.Mathlib.Omega.{arith}
 use Rattle.placing.specs.Schedules.{Demand, Windows}
-use Rattle.stretches.specs.Method.{Bounds, Sized, Possible, idleFor, busyFor, longest, idleRun, busyRun, possibleUnder, settle}
+use Rattle.stretches.specs.Method.{Bounds, Sized, FeasibleDay, idleFor, busyFor, longest, idleRun, busyRun, feasibleUnder, settle}
 use Rattle.stretches.specs.Slotwise.{keepAt, settleFrom}
 use Rattle.stretches.specs.RunLaws.{length-onRun, onRun-none, onRun-suc}
 use Rattle.stretches.specs.LongestLaws.{longest-zero, longest-none, longest-suc}
@@ -57,7 +57,7 @@ double-is (suc n) = omega (arith, double-is n)
 module _ (slots : ℕ) (ds : List Demand) (k : ℕ) where
   -- the longest run from slot t on
   unfoldable pub run : (busy : Bool) (t : ℕ) → Bounds → ℕ
-  run busy t b = longest (λ n. possibleUnder slots ds (keepFor k busy t b n)) (suc slots - t)
+  run busy t b = longest (λ n. feasibleUnder slots ds (keepFor k busy t b n)) (suc slots - t)
 
   -- so many runs from slot t on
   unfoldable pub alternate : (busy : Bool) (runs t : ℕ) → Bounds → Bounds
@@ -71,30 +71,30 @@ module _ (slots : ℕ) (ds : List Demand) (k : ℕ) where
 
 module _ {slots : ℕ} {ds : List Demand} (w : Windows slots ds) (k : ℕ) where
   module _ (busy : Bool) (t : ℕ) (b : Bounds) where
-    one-slot : possibleUnder slots ds (keepFor k busy (suc t) b 1) ≡ possibleUnder slots ds (keepAt k busy t b)
-    one-slot = ap (possibleUnder slots ds) (keepFor-suc k busy t b 0 ∙ keepFor-none k busy (suc (suc t)) (keepAt k busy t b))
+    one-slot : feasibleUnder slots ds (keepFor k busy (suc t) b 1) ≡ feasibleUnder slots ds (keepAt k busy t b)
+    one-slot = ap (feasibleUnder slots ds) (keepFor-suc k busy t b 0 ∙ keepFor-none k busy (suc (suc t)) (keepAt k busy t b))
 
     -- a slot more is possible: the run has it, and goes on after it
-    pub run-stays : t < slots → possibleUnder slots ds (keepAt k busy t b) ≡ true
+    pub run-stays : t < slots → feasibleUnder slots ds (keepAt k busy t b) ≡ true
         → run slots ds k busy (suc t) b ≡ suc (run slots ds k busy (suc (suc t)) (keepAt k busy t b))
     unfolding run
     run-stays l e =
         ap (longest test) left ∙ longest-suc test (one-slot ∙ e) _
-        ∙ ap (λ f. suc (longest f (suc slots - suc (suc t)))) (fun-ext (λ n. ap (possibleUnder slots ds) (keepFor-suc k busy t b n)))
+        ∙ ap (λ f. suc (longest f (suc slots - suc (suc t)))) (fun-ext (λ n. ap (feasibleUnder slots ds) (keepFor-suc k busy t b n)))
       where
         test : ℕ → Bool
-        test n = possibleUnder slots ds (keepFor k busy (suc t) b n)
+        test n = feasibleUnder slots ds (keepFor k busy (suc t) b n)
 
         left : suc slots - suc t ≡ suc (suc slots - suc (suc t))
         left = omega arith
 
     -- it is not possible: the run is empty
-    pub run-changes : Sized slots b → possibleUnder slots ds (keepAt k busy t b) ≡ false → run slots ds k busy (suc t) b ≡ 0
+    pub run-changes : Sized slots b → feasibleUnder slots ds (keepAt k busy t b) ≡ false → run slots ds k busy (suc t) b ≡ 0
     unfolding run
     run-changes z e = longest-none test longer (suc slots - suc t)
       where
         test : ℕ → Bool
-        test n = possibleUnder slots ds (keepFor k busy (suc t) b n)
+        test n = feasibleUnder slots ds (keepFor k busy (suc t) b n)
 
         longer : (n : ℕ) → test (suc n) ≡ false
         longer n = go (test (suc n)) refl
@@ -112,7 +112,7 @@ module _ {slots : ℕ} {ds : List Demand} (w : Windows slots ds) (k : ℕ) where
   run-past busy b = ap (longest test) none ∙ longest-zero test
     where
       test : ℕ → Bool
-      test n = possibleUnder slots ds (keepFor k busy (suc slots) b n)
+      test n = feasibleUnder slots ds (keepFor k busy (suc slots) b n)
 
       none : suc slots - suc slots ≡ 0
       none = omega arith
@@ -120,7 +120,7 @@ module _ {slots : ℕ} {ds : List Demand} (w : Windows slots ds) (k : ℕ) where
   -- Each run one slot at a time -----------------------------------------------
 
   module _ (busy : Bool) (runs t : ℕ) (b : Bounds) where
-    alternate-stays : t < slots → possibleUnder slots ds (keepAt k busy t b) ≡ true
+    alternate-stays : t < slots → feasibleUnder slots ds (keepAt k busy t b) ≡ true
         → alternate slots ds k busy (suc runs) (suc t) b ≡ alternate slots ds k busy (suc runs) (suc (suc t)) (keepAt k busy t b)
     unfolding alternate
     alternate-stays l e =
@@ -130,7 +130,7 @@ module _ {slots : ℕ} {ds : List Demand} (w : Windows slots ds) (k : ℕ) where
         later : (n : ℕ) → suc t + suc n ≡ suc (suc t) + n
         later n = omega arith
 
-    alternate-changes : Sized slots b → possibleUnder slots ds (keepAt k busy t b) ≡ false
+    alternate-changes : Sized slots b → feasibleUnder slots ds (keepAt k busy t b) ≡ false
         → alternate slots ds k busy (suc runs) (suc t) b ≡ alternate slots ds k (not busy) runs (suc t) b
     unfolding alternate
     alternate-changes z e =
@@ -151,7 +151,7 @@ module _ {slots : ℕ} {ds : List Demand} (w : Windows slots ds) (k : ℕ) where
       here = omega arith
 
   -- n slots are left after slot t, and so many runs are enough for them
-  alternate-slotwise : (busy : Bool) (n runs t : ℕ) {b : Bounds} → Possible slots ds b → t + n ≡ slots → n ≤ runs - 1
+  alternate-slotwise : (busy : Bool) (n runs t : ℕ) {b : Bounds} → FeasibleDay slots ds b → t + n ≡ slots → n ≤ runs - 1
       → alternate slots ds k busy runs (suc t) b ≡ settleFrom slots ds k busy n t b
   unfolding settleFrom
   alternate-slotwise busy zero runs t {b} h e m =
@@ -159,17 +159,17 @@ module _ {slots : ℕ} {ds : List Demand} (w : Windows slots ds) (k : ℕ) where
   alternate-slotwise busy (suc n) zero t h e m = absurd (omega arith)
   alternate-slotwise busy (suc n) (suc zero) t h e m = absurd (omega arith)
   alternate-slotwise busy (suc n) (suc (suc runs)) t {b} h e m =
-      go (possibleUnder slots ds (keepAt k busy t b)) refl
+      go (feasibleUnder slots ds (keepAt k busy t b)) refl
       (λ x r f. alternate-slotwise x n (suc r) (suc t) {b = keepAt k x t b} f (omega arith))
     where
       l : t < slots
       l = omega arith
 
-      keeps : (x : Bool) → possibleUnder slots ds (keepAt k x t b) ≡ true → Possible slots ds (keepAt k x t b)
+      keeps : (x : Bool) → feasibleUnder slots ds (keepAt k x t b) ≡ true → FeasibleDay slots ds (keepAt k x t b)
       keeps x q = record { sized = keepAt-sized k x t (h .sized); possible = q }
 
-      go : (x : Bool) → possibleUnder slots ds (keepAt k busy t b) ≡ x
-          → ((x : Bool) (r : ℕ) → Possible slots ds (keepAt k x t b) → n ≤ suc r - 1
+      go : (x : Bool) → feasibleUnder slots ds (keepAt k busy t b) ≡ x
+          → ((x : Bool) (r : ℕ) → FeasibleDay slots ds (keepAt k x t b) → n ≤ suc r - 1
           → alternate slots ds k x (suc r) (suc (suc t)) (keepAt k x t b) ≡ settleFrom slots ds k x n (suc t) (keepAt k x t b))
           → alternate slots ds k busy (suc (suc runs)) (suc t) b ≡ settleFrom slots ds k busy (suc n) t b
       go true q ih = alternate-stays busy (suc runs) t b l q ∙ ih busy (suc runs) (keeps busy q) (omega arith) ∙ sym (settleFrom-stays slots ds k busy t b n q)
@@ -179,7 +179,7 @@ module _ {slots : ℕ} {ds : List Demand} (w : Windows slots ds) (k : ℕ) where
           ∙ sym (settleFrom-changes slots ds k busy t b n q)
 
   -- the slotwise form settles what the method settles
-  pub settle-slotwise : {b : Bounds} → Possible slots ds b → settle slots ds k slots 1 b ≡ settleFrom slots ds k false slots 0 b
+  pub settle-slotwise : {b : Bounds} → FeasibleDay slots ds b → settle slots ds k slots 1 b ≡ settleFrom slots ds k false slots 0 b
   settle-slotwise {b} h =
       settle-alternate slots ds k slots 1 b
       ∙ alternate-slotwise false slots (double slots) 0 h (omega arith) (omega (arith, double-is slots))

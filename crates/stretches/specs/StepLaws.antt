@@ -10,7 +10,7 @@ use lib.Seq.{set-out}
 use Rattle.placing.specs.Schedules.{Demand, Schedule, Sound, Windows, AtMost, load}
 use Rattle.placing.specs.Theorems.{feasible-iff-sound}
 use Rattle.placing.specs.OneSlot.{sound-set-high, sound-set-low}
-use Rattle.stretches.specs.Method.{Bounds, Sized, Possible, possibleUnder}
+use Rattle.stretches.specs.Method.{Bounds, Sized, FeasibleDay, feasibleUnder}
 use Rattle.stretches.specs.Keeping.{Meets}
 use Rattle.stretches.specs.Slotwise.{keepAt, busyAt, settleFrom}
 use Rattle.stretches.specs.Cases.{le-or-lt, set-cases}
@@ -86,59 +86,59 @@ meets-or loads k busy t = go busy (le-or-lt k (getD loads t 0))
 -- Staying and changing over ---------------------------------------------------
 
 module _ (slots : ℕ) (ds : List Demand) (k : ℕ) (busy : Bool) (t : ℕ) (b : Bounds) where
-  pub busyAt-stays : possibleUnder slots ds (keepAt k busy t b) ≡ true → busyAt slots ds k busy t b ≡ busy
+  pub busyAt-stays : feasibleUnder slots ds (keepAt k busy t b) ≡ true → busyAt slots ds k busy t b ≡ busy
   unfolding busyAt
   busyAt-stays e = rw e
 
-  pub busyAt-changes : possibleUnder slots ds (keepAt k busy t b) ≡ false → busyAt slots ds k busy t b ≡ not busy
+  pub busyAt-changes : feasibleUnder slots ds (keepAt k busy t b) ≡ false → busyAt slots ds k busy t b ≡ not busy
   unfolding busyAt
   busyAt-changes e = rw e
 
   -- one step of the slotwise form
   module _ (n : ℕ) where
-    pub settleFrom-stays : possibleUnder slots ds (keepAt k busy t b) ≡ true
+    pub settleFrom-stays : feasibleUnder slots ds (keepAt k busy t b) ≡ true
         → settleFrom slots ds k busy (suc n) t b ≡ settleFrom slots ds k busy n (suc t) (keepAt k busy t b)
     unfolding settleFrom
     settleFrom-stays e = ap (λ x. settleFrom slots ds k x n (suc t) (keepAt k x t b)) (busyAt-stays e)
 
-    pub settleFrom-changes : possibleUnder slots ds (keepAt k busy t b) ≡ false
+    pub settleFrom-changes : feasibleUnder slots ds (keepAt k busy t b) ≡ false
         → settleFrom slots ds k busy (suc n) t b ≡ settleFrom slots ds k (not busy) n (suc t) (keepAt k (not busy) t b)
     unfolding settleFrom
     settleFrom-changes e = ap (λ x. settleFrom slots ds k x n (suc t) (keepAt k x t b)) (busyAt-changes e)
 
--- Possible bounds -------------------------------------------------------------
+-- FeasibleDay bounds -------------------------------------------------------------
 
 module _ {slots : ℕ} {ds : List Demand} (w : Windows slots ds) where
-  pub sound-possible : {b : Bounds} {p : Schedule} → Sized slots b → SoundUnder slots ds b p → possibleUnder slots ds b ≡ true
+  pub sound-possible : {b : Bounds} {p : Schedule} → Sized slots b → SoundUnder slots ds b p → feasibleUnder slots ds b ≡ true
   sound-possible {b} {p} z s = feasible-iff-sound w (b .low) (b .high) (z .each-low) (z .each-high) .1 (p, s)
 
-  pub possible-sound : {b : Bounds} → Possible slots ds b → (p : Schedule) × SoundUnder slots ds b p
+  pub possible-sound : {b : Bounds} → FeasibleDay slots ds b → (p : Schedule) × SoundUnder slots ds b p
   possible-sound {b} h = feasible-iff-sound w (b .low) (b .high) (h .sized .each-low) (h .sized .each-high) .0 (h .possible)
 
   -- looser bounds keep a sound placing
-  pub tighter-possible : {b c : Bounds} → Sized slots b → Tighter slots b c → Possible slots ds c → Possible slots ds b
+  pub tighter-possible : {b c : Bounds} → Sized slots b → Tighter slots b c → FeasibleDay slots ds c → FeasibleDay slots ds b
   tighter-possible z h e = record { sized = z; possible = sound-possible z (tighter-sound h (possible-sound e .1)) }
 
-  module _ (k : ℕ) (busy : Bool) (t : ℕ) {b : Bounds} (h : Possible slots ds b) (l : t < slots) where
+  module _ (k : ℕ) (busy : Bool) (t : ℕ) {b : Bounds} (h : FeasibleDay slots ds b) (l : t < slots) where
     -- where a blower cannot be idle it can be busy, and the other way round
-    pub other-possible : possibleUnder slots ds (keepAt k busy t b) ≡ false → possibleUnder slots ds (keepAt k (not busy) t b) ≡ true
+    pub other-possible : feasibleUnder slots ds (keepAt k busy t b) ≡ false → feasibleUnder slots ds (keepAt k (not busy) t b) ≡ true
     other-possible e = go (meets-or (load slots (r .0)) k busy t)
       where
         r : (p : Schedule) × SoundUnder slots ds b p
         r = possible-sound h
 
-        sound : (x : Bool) → Meets (load slots (r .0)) k x t → possibleUnder slots ds (keepAt k x t b) ≡ true
+        sound : (x : Bool) → Meets (load slots (r .0)) k x t → feasibleUnder slots ds (keepAt k x t b) ≡ true
         sound x m = sound-possible (keepAt-sized k x t (h .sized)) (keepAt-sound k x t (h .sized) l (r .1) m)
 
-        go : Meets (load slots (r .0)) k busy t ⊎ Meets (load slots (r .0)) k (not busy) t → possibleUnder slots ds (keepAt k (not busy) t b) ≡ true
+        go : Meets (load slots (r .0)) k busy t ⊎ Meets (load slots (r .0)) k (not busy) t → feasibleUnder slots ds (keepAt k (not busy) t b) ≡ true
         go (inl m) = absurd (false≢true (sym e ∙ sound busy m))
         go (inr m) = sound (not busy) m
 
   -- each step keeps a sound placing
-  pub busyAt-possible : (k : ℕ) (busy : Bool) (t : ℕ) {b : Bounds} → Possible slots ds b → t < slots
-      → Possible slots ds (keepAt k (busyAt slots ds k busy t b) t b)
-  busyAt-possible k busy t {b} h l = record { sized = keepAt-sized k (busyAt slots ds k busy t b) t (h .sized); possible = go (possibleUnder slots ds (keepAt k busy t b)) refl }
+  pub busyAt-possible : (k : ℕ) (busy : Bool) (t : ℕ) {b : Bounds} → FeasibleDay slots ds b → t < slots
+      → FeasibleDay slots ds (keepAt k (busyAt slots ds k busy t b) t b)
+  busyAt-possible k busy t {b} h l = record { sized = keepAt-sized k (busyAt slots ds k busy t b) t (h .sized); possible = go (feasibleUnder slots ds (keepAt k busy t b)) refl }
     where
-      go : (x : Bool) → possibleUnder slots ds (keepAt k busy t b) ≡ x → possibleUnder slots ds (keepAt k (busyAt slots ds k busy t b) t b) ≡ true
+      go : (x : Bool) → feasibleUnder slots ds (keepAt k busy t b) ≡ x → feasibleUnder slots ds (keepAt k (busyAt slots ds k busy t b) t b) ≡ true
       go true e = rw (busyAt-stays slots ds k busy t b e) e
       go false e = rw (busyAt-changes slots ds k busy t b e) (other-possible k busy t h l e)

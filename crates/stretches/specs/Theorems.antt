@@ -8,11 +8,12 @@ use Prim.Native.Nat.{ℕ, suc, _-_, _≤_, _<_}
 use native.Mathlib.Omega.{arith}
 use lib.ListN.{length, getD, replicate, length-replicate, getD-replicate}
 use Rattle.placing.specs.Schedules.{Demand, Schedule, Sound, Windows, load, feasible}
-use Rattle.stretches.specs.Method.{Bounds, dayBounds, Possible, idleFor, busyFor, possibleUnder, idleRun, busyRun, settle, settleAll, loads}
+use Rattle.stretches.specs.Method.{Bounds, dayBounds, FeasibleDay, idleFor, busyFor, feasibleUnder, idleRun, busyRun, settle, settleAll, loads}
 use Rattle.stretches.specs.Intervals.{Interval, intervals, busyIn, LongestRun}
 use Rattle.stretches.specs.Keeping.{Keeps, stretches, StretchesStop}
 use Rattle.stretches.specs.SettledRuns.{settledRuns, boundsAtTurn}
 use Rattle.stretches.specs.Slotwise.{keepAt, settleFrom, settleEach}
+use Rattle.stretches.specs.AsWorded.{settleAllWorded, settleAll-worded, day-least}
 use Rattle.stretches.specs.LongestLaws.{longest-passes, le-longest}
 use Rattle.stretches.specs.StepLaws.{possible-sound, tighter-sound, other-possible}
 use Rattle.stretches.specs.SlotwiseLaws.{keepFor-none, settle-slotwise}
@@ -22,7 +23,7 @@ use Rattle.stretches.specs.KeepingLaws as Keep
 use Rattle.stretches.specs.IntervalLaws.{interval-longest}
 
 -- A day that is not held can be planned: its bounds, low 0 and high m, are such as the theorems ask for.
-pub day-possible : (slots m : ℕ) (ds : List Demand) → feasible slots ds (replicate slots 0) (replicate slots m) ≡ true → Possible slots ds (dayBounds slots m)
+pub day-possible : (slots m : ℕ) (ds : List Demand) → feasible slots ds (replicate slots 0) (replicate slots m) ≡ true → FeasibleDay slots ds (dayBounds slots m)
 day-possible slots m ds e = record {
   sized = record { each-low = length-replicate slots 0; each-high = length-replicate slots m };
   possible = e;
@@ -31,31 +32,35 @@ day-possible slots m ds e = record {
 pub day-high : (slots m t : ℕ) → t < slots → getD (dayBounds slots m .high) t 0 ≤ m
 day-high slots m t l = omega (arith, getD-replicate slots t m 0 l)
 
-module _ {slots : ℕ} {ds : List Demand} (w : Windows slots ds) {b : Bounds} (h : Possible slots ds b) where
+-- The method with its idle step worded as in document 01, high set to k − 1, is this method on the bounds that a day begins with.
+pub settled-as-worded : (slots m : ℕ) (ds : List Demand) → settleAllWorded slots ds m (dayBounds slots m) ≡ settleAll slots ds m (dayBounds slots m)
+settled-as-worded slots m ds = settleAll-worded slots ds m (dayBounds slots m) (day-least slots ds m)
+
+module _ {slots : ℕ} {ds : List Demand} (w : Windows slots ds) {b : Bounds} (h : FeasibleDay slots ds b) where
   -- (a) A run that the method takes is possible, and it is the longest.
   module _ (k t : ℕ) where
-    pub idle-run-possible : possibleUnder slots ds (idleFor k t b (idleRun slots ds k t b)) ≡ true
+    pub idle-run-possible : feasibleUnder slots ds (idleFor k t b (idleRun slots ds k t b)) ≡ true
     unfolding idleRun
     idle-run-possible =
-        longest-passes (λ n. possibleUnder slots ds (idleFor k t b n)) (ap (possibleUnder slots ds) (keepFor-none k false t b) ∙ h .possible) (suc slots - t)
+        longest-passes (λ n. feasibleUnder slots ds (idleFor k t b n)) (ap (feasibleUnder slots ds) (keepFor-none k false t b) ∙ h .possible) (suc slots - t)
 
-    pub idle-run-longest : (n : ℕ) → n ≤ suc slots - t → possibleUnder slots ds (idleFor k t b n) ≡ true → n ≤ idleRun slots ds k t b
+    pub idle-run-longest : (n : ℕ) → n ≤ suc slots - t → feasibleUnder slots ds (idleFor k t b n) ≡ true → n ≤ idleRun slots ds k t b
     unfolding idleRun
-    idle-run-longest = le-longest (λ n. possibleUnder slots ds (idleFor k t b n)) (suc slots - t)
+    idle-run-longest = le-longest (λ n. feasibleUnder slots ds (idleFor k t b n)) (suc slots - t)
 
-    pub busy-run-possible : possibleUnder slots ds (busyFor k t b (busyRun slots ds k t b)) ≡ true
+    pub busy-run-possible : feasibleUnder slots ds (busyFor k t b (busyRun slots ds k t b)) ≡ true
     unfolding busyRun
     busy-run-possible =
-        longest-passes (λ n. possibleUnder slots ds (busyFor k t b n)) (ap (possibleUnder slots ds) (keepFor-none k true t b) ∙ h .possible) (suc slots - t)
+        longest-passes (λ n. feasibleUnder slots ds (busyFor k t b n)) (ap (feasibleUnder slots ds) (keepFor-none k true t b) ∙ h .possible) (suc slots - t)
 
-    pub busy-run-longest : (n : ℕ) → n ≤ suc slots - t → possibleUnder slots ds (busyFor k t b n) ≡ true → n ≤ busyRun slots ds k t b
+    pub busy-run-longest : (n : ℕ) → n ≤ suc slots - t → feasibleUnder slots ds (busyFor k t b n) ≡ true → n ≤ busyRun slots ds k t b
     unfolding busyRun
-    busy-run-longest = le-longest (λ n. possibleUnder slots ds (busyFor k t b n)) (suc slots - t)
+    busy-run-longest = le-longest (λ n. feasibleUnder slots ds (busyFor k t b n)) (suc slots - t)
 
   -- (b) One slot more at a time settles the same: where a blower cannot stay as it is, idle or busy, it can change over. (A step of the slotwise form, by
   -- the answer for one slot: `settleFrom-stays` and `settleFrom-changes` of StepLaws.antt.)
-  pub can-change : (k : ℕ) (busy : Bool) (t : ℕ) → t < slots → possibleUnder slots ds (keepAt k busy t b) ≡ false
-      → possibleUnder slots ds (keepAt k (not busy) t b) ≡ true
+  pub can-change : (k : ℕ) (busy : Bool) (t : ℕ) → t < slots → feasibleUnder slots ds (keepAt k busy t b) ≡ false
+      → feasibleUnder slots ds (keepAt k (not busy) t b) ≡ true
   can-change k busy t l = other-possible w k busy t h l
 
   pub settle-is-slotwise : (k : ℕ) → settle slots ds k slots 1 b ≡ settleFrom slots ds k false slots 0 b
@@ -66,7 +71,7 @@ module _ {slots : ℕ} {ds : List Demand} (w : Windows slots ds) {b : Bounds} (h
 
   module _ (m : ℕ) where
     -- (c) Settling keeps a sound placing.
-    pub settleAll-possible : Possible slots ds (settleAll slots ds m b)
+    pub settleAll-possible : FeasibleDay slots ds (settleAll slots ds m b)
     settleAll-possible = rw (settleAll-is-slotwise m) (Settle.settleEach-possible w m h)
 
     pub length-loads : length (loads slots ds m b) ≡ slots

@@ -2,6 +2,7 @@
 // does so. The words hold a sound placing with the counts at the start, one of what is left after each choice, and nothing at the end.
 ghost use mathlib.Core.Path.{_≡_};
 ghost use Rattle.stretches.specs.FeedingCalls.{CanChooseSlot, ChoseSlot, CanChoose, Chose};
+use placing::candidates;
 use placing::feed;
 
 // The rations fed in slot t, bit j for ration j.
@@ -18,8 +19,9 @@ fn choose_slot(
         (now (fed .exit)) (now (rest .exit)) (now (high .exit)) t rations ⌝ }
 {
     let mut word: u64 = 0;
+    let mut may = candidates::fed_somewhere(fed);
     for j in 0..rations {
-        word = feed::feed_bit(fed, rest, high, seen, t, j as u32, word);
+        word = feed::feed_bit(fed, rest, high, seen, &mut may, t, j as u32, word);
     }
     word
 }

@@ -2,7 +2,8 @@
 //
 // `settle` takes the blowers from the last down to the first, and each from slot 1 on: idle as long as a sound placing exists, then busy as long as one
 // exists, and so on. It asks crate `placing` one question for each slot, and a second one where the blower changes over. At the end every slot's low equals
-// its high: that is its count. That one slot more at a time settles the longest runs of document 01 is a theorem (specs/Theorems.antt).
+// its high: that is its count. That one slot more at a time settles the longest runs of document 01 is a theorem (specs/Theorems.antt). For the layers above:
+// the functions ask for rations and counts in range.
 mod feedings;
 mod intervals;
 mod planning;
