@@ -15,7 +15,8 @@ use Rattle.listing.specs.Sizes.{planBytes, gridBytes}
 use Rattle.listing.specs.Opening.{Written}
 use Rattle.listing.specs.Planning.{planRefusal, shortPlan, shortGrid, writes, listedAnswer, unlistedAnswer, listingAfter, gridAfter, listingOf, gridFor}
 use Rattle.listing.specs.NumberLaws.{number-read, silent-read}
-use Rattle.listing.specs.CallSteps.{SheetDay, NumberOf, number-loud, refusal-read, refusal-short, refusal-day, listed-silent, listing-silent, grid-silent, listed-loud, grid-loud}
+use Rattle.listing.specs.SheetDays.{SheetDay, NumberOf}
+use Rattle.listing.specs.Refusals.{refusal-read, refusal-short, refusal-day, listed-silent, listing-silent, grid-silent, listed-loud, grid-loud, number-loud}
 
 -- ---- the buffers' lengths
 

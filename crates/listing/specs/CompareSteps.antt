@@ -20,7 +20,7 @@ use Rattle.stretches.specs.declared.Day.{Day}
 use Rattle.listing.specs.declared.Compared.{Compared}
 use Rattle.listing.specs.DayLaws.{length-countsOf}
 use Rattle.listing.specs.Planning.{canBePlanned, heldFaults, countsOf, compareRefusal, sameDay, comparedOf}
-use Rattle.listing.specs.CallSteps.{SheetDay, held-is, can, counts-are}
+use Rattle.listing.specs.SheetDays.{SheetDay, held-is, can, counts-are}
 
 -- ---- two lists of counts
 

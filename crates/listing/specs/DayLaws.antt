@@ -14,7 +14,7 @@ use Rattle.placing.specs.Calls.{demandsOf, noLow, fullHigh}
 use Rattle.placing.specs.AsFunctions.{Rows}
 use Rattle.placing.specs.FeasibleLaws.{feasible-sound, sound-feasible, sound-looser}
 use Rattle.placing.specs.DemandLaws.{length-demandsOf, windows-demandsOf}
-use Rattle.stretches.specs.Method.{dayBounds, Possible, settleAll, loads}
+use Rattle.stretches.specs.Method.{dayBounds, FeasibleDay, settleAll, loads}
 use Rattle.stretches.specs.Keeping.{StretchesStop}
 use Rattle.stretches.specs.FeedingLaws.{chosen-sound}
 use Rattle.stretches.specs.Theorems.{day-possible, day-high, length-loads, low-is-high, settled-loads, loads-between, loads-feasible, stretches-stop}
@@ -51,7 +51,7 @@ module _ (s : Sheet) where
 -- A day that is planned -----------------------------------------------------------------
 
 module _ (s : Sheet) (can : canBePlanned s ≡ true) where
-  possible : Possible (s .slots) (demandsOf s) (dayBounds (s .slots) (s .blowers))
+  possible : FeasibleDay (s .slots) (demandsOf s) (dayBounds (s .slots) (s .blowers))
   unfolding canBePlanned noLow fullHigh
   possible = day-possible (s .slots) (s .blowers) (demandsOf s) can
 

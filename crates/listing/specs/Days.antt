@@ -1,47 +1,91 @@
--- The days of 'Days at the edge', as rows of one table: what the definitions give for a sheet's text, beside what document 01 says. The rows of the
--- placing layer's own calls are that layer's (`placingDays`). A plan's numbers are read off the program's whole output. Assumes nothing.
-use mathlib.Core.Path.{refl}
-use mathlib.Core.List.{List, [], _∷_, _++_}
+-- The days of 'Days at the edge' as one table: a question about a sheet's text, beside what document 01 says. `answer` gives the answer of the definitions;
+-- a plan's numbers are read off the program's whole output. Assumes nothing.
+use mathlib.Core.Path.{_≡_, refl}
+use mathlib.Core.Bool.{Bool, false}
+use mathlib.Core.List.{List, [], _∷_, map}
 use Prim.Native.Nat.{ℕ}
 use Prim.Native.String.{String}
+use lib.IntN.{ℤ, pos, negsuc}
 use Rattle.sheet.specs.Sheet.{sheetOf}
 use Rattle.placing.specs.Text.{text}
-use Rattle.placing.specs.Days.{Day, AsStated, listed, held, late, placingDays}
+use Rattle.placing.specs.Calls.{shortfallOf, boundsOf}
 use Rattle.listing.specs.Lines.{Line, line}
 use Rattle.listing.specs.Planning.{countsOf, output}
 use Rattle.listing.specs.ReadListing.{linesOf, headLine, stretchPart, feedPart}
 use Rattle.listing.specs.Meanings.{listings}
 
--- Rows ----------------------------------------------------------------------------
+-- Questions and answers -------------------------------------------------------------
 
--- the program's whole output
-abbrev ofOutput : List String → List String → Day
-ofOutput sheet out = record { Answer = List ℕ; given = output (text sheet); stated = text out }
+-- a sheet, as its lines of text
+abbrev Sheet : Type 0
+Sheet = List String
 
--- the count of each slot
-abbrev ofCounts : List String → List ℕ → Day
-ofCounts sheet counts = record { Answer = List ℕ; given = countsOf (sheetOf (text sheet)); stated = counts }
+pub data Question : Type 0 where
+  -- the program's whole output
+  outputFor : Sheet → Question
+  -- the count of each slot
+  countsFor : Sheet → Question
+  energyFor : Sheet → Question
+  startsFor : Sheet → Question
+  stretchesFor : Sheet → Question
+  feedingsFor : Sheet → Question
+  -- the shortfall of the marked slots
+  shortfallFor : Sheet → (marks : List ℕ) → Question
+  -- the bounds question
+  boundsFor : Sheet → (lows highs : List ℕ) → Question
+
+pub data Answer : Type 0 where
+  bytes : List ℕ → Answer
+  numbers : List ℕ → Answer
+  number : ℕ → Answer
+  lines : List Line → Answer
+  -- number, line, and the shortfall or yes
+  signed : ℕ → ℕ → ℤ → Answer
+  isYes : ℕ → ℕ → Bool → Answer
 
 -- the lines of the output
-abbrev outputLines : List String → List Line
-outputLines sheet = linesOf (output (text sheet))
+abbrev outputLines : Sheet → List Line
+outputLines s = linesOf (output (text s))
 
-abbrev ofEnergy : List String → ℕ → Day
-ofEnergy sheet e = record { Answer = ℕ; given = headLine (outputLines sheet) .a; stated = e }
+-- what the definitions answer
+abbrev pub answer : Question → Answer
+answer (outputFor s) = bytes (output (text s))
+answer (countsFor s) = numbers (countsOf (sheetOf (text s)))
+answer (energyFor s) = number (headLine (outputLines s) .a)
+answer (startsFor s) = number (headLine (outputLines s) .b)
+answer (stretchesFor s) = lines (stretchPart (outputLines s))
+answer (feedingsFor s) = lines (feedPart (outputLines s))
+answer (shortfallFor s marks) = let r = shortfallOf (text s) marks in signed (r .number) (r .line) (r .shortfall)
+answer (boundsFor s lows highs) = let r = boundsOf (text s) lows highs in isYes (r .number) (r .line) (r .yes)
 
-abbrev ofStarts : List String → ℕ → Day
-ofStarts sheet n = record { Answer = ℕ; given = headLine (outputLines sheet) .b; stated = n }
+-- A row: the question, and the answer that the paper states.
+pub record Day : Type 0 where
+  pub asked : Question
+  pub stated : Answer
 
-abbrev ofStretches : List String → List Line → Day
-ofStretches sheet ls = record { Answer = List Line; given = stretchPart (outputLines sheet); stated = ls }
+abbrev day : Question → Answer → Day
+day q a = record { asked = q; stated = a }
 
-abbrev ofFeedings : List String → List Line → Day
-ofFeedings sheet ls = record { Answer = List Line; given = feedPart (outputLines sheet); stated = ls }
+-- the statement about a table: the definitions answer each question as stated
+abbrev pub AsStated : List Day → Type 0
+AsStated days = map (λ d. answer (d .asked)) days ≡ map (λ d. d .stated) days
 
--- Sheets, as their lines ------------------------------------------------------------
+-- Sheets ----------------------------------------------------------------------------
+
+-- the listing's sheet
+abbrev listed : Sheet
+listed =
+    "    4    2    2    3"
+    ∷ "    1    1    2    2"
+    ∷ "    2    1    4    2"
+    ∷ "    3    2    3    1" ∷ []
+
+-- the day that is held
+abbrev held : Sheet
+held = "    3    1    1    2" ∷ "    1    1    2    2" ∷ "    2    2    3    2" ∷ []
 
 -- the day on which nearest-deadline feeding fails
-abbrev deadlines : List String
+abbrev deadlines : Sheet
 deadlines =
     "    3    2    1    3"
     ∷ "    1    1    2    1"
@@ -49,29 +93,35 @@ deadlines =
     ∷ "    3    1    3    3" ∷ []
 
 -- a day without rations, and a wake cost one above its slots, or equal to them
-abbrev idleOn : List String
+abbrev idleOn : Sheet
 idleOn = "    3    1    4    0" ∷ []
 
-abbrev idleOff : List String
+abbrev idleOff : Sheet
 idleOff = "    3    1    3    0" ∷ []
 
 -- the day of one slot with the greatest wake cost
-abbrev oneSlot : List String
+abbrev oneSlot : Sheet
 oneSlot = "    1    1  200    1" ∷ "    1    1    1    1" ∷ []
 
+-- the day with one feeding, in slot 3
+abbrev late : Sheet
+late = "    3    1    1    1" ∷ "    1    1    3    1" ∷ []
+
 -- busy at both ends of the day, with a wake cost above the stretch between them, or equal to it
-abbrev endsOn : List String
+abbrev endsOn : Sheet
 endsOn = "    3    1    2    2" ∷ "    1    1    1    1" ∷ "    2    3    3    1" ∷ []
 
-abbrev endsOff : List String
+abbrev endsOff : Sheet
 endsOff = "    3    1    1    2" ∷ "    1    1    1    1" ∷ "    2    3    3    1" ∷ []
 
 -- The starred days ------------------------------------------------------------------
 
+-- where only lows are named, highs are m
 abbrev pub starredDays : List Day
 starredDays =
-    placingDays
-    ++ (ofOutput listed
+    day (outputFor listed)
+    (bytes
+    (text
     ("PLAN"
     ∷ "   10    2    4    5"
     ∷ "    1    1    4    2"
@@ -82,29 +132,33 @@ starredDays =
     ∷ "    2    1    1    2"
     ∷ "    3    1    2    1"
     ∷ "    3    2    3    1"
-    ∷ "    4    1    2    2" ∷ [])
-    ∷ ofCounts listed (1 ∷ 1 ∷ 2 ∷ 1 ∷ [])
-    ∷ ofEnergy listed 10
-    ∷ ofOutput held ("HELD" ∷ "   12    1    2    1" ∷ "    2    0    0    0" ∷ [])
-    ∷ ofFeedings deadlines (line 1 1 1 1 ∷ line 1 2 3 1 ∷ line 2 1 2 1 ∷ line 2 2 3 2 ∷ line 3 1 3 3 ∷ [])
-    ∷ ofEnergy deadlines 7
-    ∷ ofStretches idleOn (line 1 1 3 1 ∷ [])
-    ∷ ofEnergy idleOn 7
-    ∷ ofStarts idleOn 1
-    ∷ ofStretches idleOff (line 1 1 3 0 ∷ [])
-    ∷ ofEnergy idleOff 0
-    ∷ ofEnergy oneSlot 201
-    ∷ ofStretches late (line 1 1 2 0 ∷ line 1 3 3 2 ∷ [])
-    ∷ ofEnergy late 2
-    ∷ ofEnergy endsOn 5
-    ∷ ofEnergy endsOff 4
-    ∷ [])
+    ∷ "    4    1    2    2" ∷ [])))
+    ∷ day (countsFor listed) (numbers (1 ∷ 1 ∷ 2 ∷ 1 ∷ []))
+    ∷ day (energyFor listed) (number 10)
+    ∷ day (outputFor held) (bytes (text ("HELD" ∷ "   12    1    2    1" ∷ "    2    0    0    0" ∷ [])))
+    ∷ day (shortfallFor held (1 ∷ 0 ∷ 0 ∷ [])) (signed 0 0 (pos 0))
+    ∷ day (shortfallFor held (1 ∷ 1 ∷ 1 ∷ [])) (signed 0 0 (pos 1))
+    ∷ day (shortfallFor listed (0 ∷ 0 ∷ 0 ∷ 1 ∷ [])) (signed 0 0 (negsuc 1))
+    ∷ day (feedingsFor deadlines) (lines (line 1 1 1 1 ∷ line 1 2 3 1 ∷ line 2 1 2 1 ∷ line 2 2 3 2 ∷ line 3 1 3 3 ∷ []))
+    ∷ day (energyFor deadlines) (number 7)
+    ∷ day (stretchesFor idleOn) (lines (line 1 1 3 1 ∷ []))
+    ∷ day (energyFor idleOn) (number 7)
+    ∷ day (startsFor idleOn) (number 1)
+    ∷ day (stretchesFor idleOff) (lines (line 1 1 3 0 ∷ []))
+    ∷ day (energyFor idleOff) (number 0)
+    ∷ day (energyFor oneSlot) (number 201)
+    ∷ day (stretchesFor late) (lines (line 1 1 2 0 ∷ line 1 3 3 2 ∷ []))
+    ∷ day (energyFor late) (number 2)
+    ∷ day (boundsFor late (1 ∷ 1 ∷ 0 ∷ []) (1 ∷ 1 ∷ 1 ∷ [])) (isYes 0 0 false)
+    ∷ day (boundsFor late (0 ∷ 1 ∷ 0 ∷ []) (0 ∷ 0 ∷ 1 ∷ [])) (isYes 0 0 false)
+    ∷ day (energyFor endsOn) (number 5)
+    ∷ day (energyFor endsOff) (number 4)
+    ∷ []
 
 -- every starred day is as document 01 says
 pub starred-days-as-stated : AsStated starredDays
 unfolding listings
-starred-days-as-stated =
-    (refl, (refl, (refl, (refl, (refl, (refl, (refl, (refl, (refl, (refl, (refl, (refl, (refl, (refl, (refl, (refl, (refl, (refl, (refl, (refl, (refl, tt)))))))))))))))))))))
+starred-days-as-stated = refl
 
 -- Days that are not starred -----------------------------------------------------------
 
@@ -112,14 +166,14 @@ starred-days-as-stated =
 -- slot and not ration by ration
 abbrev pub otherDays : List Day
 otherDays =
-    ofOutput ("   97    1    0    0" ∷ []) ("HELD" ∷ "    3    1    0    0" ∷ [])
-    ∷ ofOutput ("   96    9    0    0" ∷ []) ("HELD" ∷ "    4    1    0    0" ∷ [])
-    ∷ ofOutput ("   96    8  201    0" ∷ []) ("HELD" ∷ "    5    1    0    0" ∷ [])
-    ∷ ofCounts ("    2    2    1    2" ∷ "    1    1    2    1" ∷ "    2    1    2    1" ∷ []) (1 ∷ 1 ∷ [])
-    ∷ ofFeedings ("    3    1    1    3" ∷ "    1    2    3    1" ∷ "    2    1    3    1" ∷ "    3    1    2    1" ∷ [])
-    (line 1 1 2 1 ∷ line 2 1 3 1 ∷ line 3 1 1 1 ∷ [])
+    day (outputFor ("   97    1    0    0" ∷ [])) (bytes (text ("HELD" ∷ "    3    1    0    0" ∷ [])))
+    ∷ day (outputFor ("   96    9    0    0" ∷ [])) (bytes (text ("HELD" ∷ "    4    1    0    0" ∷ [])))
+    ∷ day (outputFor ("   96    8  201    0" ∷ [])) (bytes (text ("HELD" ∷ "    5    1    0    0" ∷ [])))
+    ∷ day (countsFor ("    2    2    1    2" ∷ "    1    1    2    1" ∷ "    2    1    2    1" ∷ [])) (numbers (1 ∷ 1 ∷ []))
+    ∷ day (feedingsFor ("    3    1    1    3" ∷ "    1    2    3    1" ∷ "    2    1    3    1" ∷ "    3    1    2    1" ∷ []))
+    (lines (line 1 1 2 1 ∷ line 2 1 3 1 ∷ line 3 1 1 1 ∷ []))
     ∷ []
 
 pub other-days-as-stated : AsStated otherDays
 unfolding listings
-other-days-as-stated = (refl, (refl, (refl, (refl, (refl, tt)))))
+other-days-as-stated = refl

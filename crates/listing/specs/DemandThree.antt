@@ -87,7 +87,8 @@ pub record SoundPlan (s : Sheet) (ls : List Line) (p : Schedule) : Type 0 where
   pub stops : (k : ℕ) (v : Interval) → Listed ls k v → v .last < s .slots
       → (o : Schedule) → KeepsAllBefore ls (loadOf s o) k v → Carries (loadOf s o) k v → ¬ SoundPlacing s o
 
--- The lines of a plan are those of the placing p on its feed lines, and no others.
+-- The lines of a plan are those of the placing p on its feed lines: which stretches and which feedings, and no others. (The state of a stretch, and the order
+-- of the feed lines of several slots, are settled by the call's equation with `planLines`.)
 pub record LinesOf (s : Sheet) (ls : List Line) (p : Schedule) : Type 0 where
   -- a head line, stretch lines and feed lines; the head line has the energy and the starts of the placing's loads
   pub whole : ls ≡ headLine ls ∷ stretchPart ls ++ feedPart ls
@@ -284,6 +285,13 @@ pub demand-three-both : (b : List ℕ) → faults b ≡ [] → (listing grid : L
     (gridAfter r (sheetOf b) grid)
 demand-three-both b formed listing grid l k =
     demand-three b formed (shortPlan listing || shortGrid grid) (rw (shortPlan-long listing l, shortGrid-long grid k)) listing grid
+
+-- A call that is lent a plan buffer alone, of at least its size, meets it over its listing; the feedings are not marked anywhere else.
+pub demand-three-listed : (b : List ℕ) → faults b ≡ [] → (listing grid : List ℕ) → planBytes ≤ length listing
+    → let r = planRefusal b (shortPlan listing) in
+    DemandThree (sheetOf b) (listedAnswer r (sheetOf b) .number) (written (listedAnswer r (sheetOf b)) (listingAfter r (sheetOf b) listing))
+    (gridAfter r (sheetOf b) grid)
+demand-three-listed b formed listing grid l = demand-three b formed (shortPlan listing) (shortPlan-long listing l) listing grid
 
 -- A call that is lent no plan buffer gives the same number, and the feedings that it marks in a placing buffer are a sound placing.
 pub unlisted-held-iff : (b : List ℕ) → faults b ≡ [] → (short : Bool) → short ≡ false

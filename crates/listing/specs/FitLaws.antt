@@ -26,7 +26,7 @@ use Rattle.listing.specs.Text.{writeLines, planWord, heldWord, planText,
 use Rattle.listing.specs.Planning.{canBePlanned, countsOf, feedingsOf, planOf}
 use Rattle.listing.specs.ReadListing.{tanks}
 use Rattle.listing.specs.ReadLaws.{FitsLine, FitLines}
-use Rattle.listing.specs.SlotSetLaws.{length-membersFrom}
+use Rattle.listing.specs.SlotSetLaws.{length-membersFrom, count-le}
 use Rattle.listing.specs.StretchLineLaws.{in-stretchLines}
 use Rattle.listing.specs.Putting.{length-writeLines}
 use Rattle.listing.specs.LengthLaws.{length-stretchLines}
@@ -149,11 +149,6 @@ module _ (s : Sheet) (v : ValuesInRange s (length (s .jobs)) true) (can : canBeP
       )
 
 -- A held sheet ------------------------------------------------------------------------
-
-count-le : (q : Slots) → count q ≤ length q
-count-le [] = omega arith
-count-le (true ∷ q) = omega (arith, count-le q)
-count-le (false ∷ q) = omega (arith, count-le q)
 
 -- where every slot has the same high, the capacity is that many times the number of slots
 capacity-same : (m : ℕ) (q : Slots) (slots : ℕ) → length q ≡ slots → capacity (replicate slots m) q ≡ count q * m

@@ -1,8 +1,9 @@
 -- How a held sheet's listing is put: one slot more, then the head line. Assumes nothing.
-use mathlib.Core.Path.{_≡_, refl, sym, ap, _∙_}
+use mathlib.Core.Path.{_≡_, refl, sym, ap, _∙_, subst}
 use mathlib.Core.Bool.{Bool, true, false, cond}
 use mathlib.Core.List.{List, [], _∷_, _++_, map, map-append}
 use Prim.Native.Nat.{ℕ, zero, suc, _+_, _-_, _*_, _≤_, _<_}
+use native.Mathlib.Nat.{mul-le-mul}
 use native.Mathlib.Numerals.{add-one}
 use native.Mathlib.Omega.{arith}
 use lib.Dec.{ltb}
@@ -10,7 +11,7 @@ use lib.ListN.{length, getD, take, length-map, length-take}
 use borrow.Author.Tests.{lt-ltb, le-ltb}
 use Rattle.common.specs.Lists.{part, count}
 use Rattle.common.specs.ListLaws.{part-cons, part-none, part-front}
-use Rattle.sheet.specs.Limits.{lineBytes}
+use Rattle.sheet.specs.Limits.{lineBytes, maxSlots, maxBlowers}
 use Rattle.sheet.specs.Sheet.{writeLine}
 use Rattle.sheet.specs.Parts.{putAt}
 use Rattle.sheet.specs.PutLaws.{length-putAt}
@@ -18,6 +19,7 @@ use Rattle.placing.specs.Slots.{Slots}
 use Rattle.listing.specs.Sizes.{wordBytes, planBytes}
 use Rattle.listing.specs.Lines.{Line, line, membersFrom, memberLines, heldLines}
 use Rattle.listing.specs.Text.{writeLines, heldWord, heldText}
+use Rattle.listing.specs.SlotSetLaws.{count-le}
 use Rattle.listing.specs.Inputs.{setOf}
 use Rattle.listing.specs.Putting.{Put, Putting, Room, putting-begin, putting-more, putting-room, putting-end, put-one, putAt-nothing, length-writeLines}
 use Rattle.listing.specs.Opening.{Written, listing-written, listing-length}
@@ -57,11 +59,6 @@ unfolding memberLines membersFrom
 length-memberLines t [] = refl
 length-memberLines t (true ∷ q) = ap suc (length-memberLines (suc t) q)
 length-memberLines t (false ∷ q) = length-memberLines (suc t) q
-
-count-le : (q : Slots) → count q ≤ length q
-count-le [] = omega arith
-count-le (true ∷ q) = omega (arith, count-le q)
-count-le (false ∷ q) = omega (arith, count-le q)
 
 -- the set from place t on
 abbrev setFrom : (slots : ℕ) → (marks : List ℕ) → ℕ → Slots
@@ -109,12 +106,13 @@ module _ (marks : List ℕ) (slots at : ℕ) (old : List ℕ) (can : CanPutMembe
 
 -- The listing ------------------------------------------------------------------------
 
-pub record CanPutHeld (out : List ℕ) (slots : ℕ) (marks : List ℕ) : Type 0 where
+pub record CanPutHeld (out : List ℕ) (slots blowers : ℕ) (marks : List ℕ) : Type 0 where
   pub day : slots ≤ 96
+  pub few : blowers ≤ maxBlowers
   pub long : length marks ≡ 96
   pub room : planBytes ≤ length out
 
-module _ (slots : ℕ) (marks old : List ℕ) (can : CanPutHeld old slots marks) where
+module _ (slots blowers : ℕ) (marks old : List ℕ) (can : CanPutHeld old slots blowers marks) where
   -- the slots shown are slots of the day
   members-few : length (memberLines 1 (setOf slots marks)) ≤ 96
   unfolding setOf
@@ -142,13 +140,23 @@ module _ (slots : ℕ) (marks old : List ℕ) (can : CanPutHeld old slots marks)
           can .room,
         )
 
-    pub held-written : (forced capacity : ℕ) (o₃ : List ℕ) → o₃ ≡ putAt wordBytes (writeLine 12 n forced capacity) o₂
+    pub held-capacity : n * blowers ≤ maxSlots * maxBlowers
+    held-capacity = mul-le-mul held-few (can .few)
+
+    counted : n ≡ count (setOf slots marks)
+    counted = s .number ∙ length-memberLines 1 (setOf slots marks)
+
+    with-capacity : (forced capacity : ℕ) (o₃ : List ℕ) → o₃ ≡ putAt wordBytes (writeLine 12 n forced capacity) o₂
         → Written (heldText (setOf slots marks) forced capacity) old o₃ (wordBytes + lineBytes * (n + 1))
     unfolding heldText heldLines
-    held-written forced capacity o₃ e₃ =
+    with-capacity forced capacity o₃ e₃ =
         record {
           bytes =
               listing-written heldWord refl old (line 12 (count (setOf slots marks)) forced capacity) (memberLines 1 (setOf slots marks)) o₁ o₂ o₃ (omega (arith, members-few, can .room)) e₁ (s .text)
-              (e₃ ∙ ap (λ k. putAt wordBytes (writeLine 12 k forced capacity) o₂) (s .number ∙ length-memberLines 1 (setOf slots marks)));
+              (e₃ ∙ ap (λ k. putAt wordBytes (writeLine 12 k forced capacity) o₂) counted);
           size = sym (listing-length heldWord refl old (line 12 (count (setOf slots marks)) forced capacity ∷ memberLines 1 (setOf slots marks)) ∙ omega (arith, s .number));
         }
+
+    pub held-written : (forced : ℕ) (o₃ : List ℕ) → o₃ ≡ putAt wordBytes (writeLine 12 n forced (n * blowers)) o₂
+        → Written (heldText (setOf slots marks) forced (count (setOf slots marks) * blowers)) old o₃ (wordBytes + lineBytes * (n + 1))
+    held-written forced o₃ e₃ = subst (λ k. Written (heldText (setOf slots marks) forced (k * blowers)) old o₃ (wordBytes + lineBytes * (n + 1))) counted (with-capacity forced (n * blowers) o₃ e₃)

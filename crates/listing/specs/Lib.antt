@@ -32,7 +32,9 @@ pub mod GridSteps
 pub mod HeldSteps
 pub mod PlanSteps
 pub mod InputLaws
-pub mod CallSteps
+pub mod SheetDays
+pub mod Refusals
 pub mod NumberLaws
 pub mod CallAnswers
+pub mod OutputLaws
 pub mod CompareSteps

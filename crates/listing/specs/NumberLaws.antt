@@ -17,7 +17,7 @@ use Rattle.placing.specs.ReadLaws.{refused-before}
 use Rattle.listing.specs.Planning.{writes}
 
 -- none, or refused first by a number up to 9
-record OfSheet (rs : List Refusal) : Type 0 where
+pub record OfSheet (rs : List Refusal) : Type 0 where
   pub le : firstRefusal rs .number ≤ 9
 
 of-none : OfSheet []
@@ -53,7 +53,7 @@ unfolding jobsFaults
 of-jobs slots line before [] = of-none
 of-jobs slots line before (j ∷ js) = of-append _ _ (of-job slots line before j) (of-jobs slots (suc line) (j .tank) js)
 
-of-values : (s : Sheet) (n : ℕ) (agrees : Bool) → OfSheet (valueFaults s n agrees)
+pub of-values : (s : Sheet) (n : ℕ) (agrees : Bool) → OfSheet (valueFaults s n agrees)
 unfolding valueFaults
 of-values s n agrees = of-append _ _ (of-head s n agrees) (of-jobs (s .slots) 2 0 (s .jobs))
 

@@ -69,6 +69,10 @@ module _ (word : List ℕ) (short : length word ≡ wordBytes) (old : List ℕ) 
       same : length o₁ ≡ length old
       same = ap length e₁ ∙ length-putAt 0 word old (omega (arith, short))
 
+pub length-refusalText : (number l : ℕ) → length (refusalText number l) ≡ wordBytes + lineBytes
+unfolding refusalText
+length-refusalText number l = listing-length heldWord refl [] (line number l 0 0 ∷ [])
+
 -- a refusal's listing has no other lines
 pub refusal-written : (number l : ℕ) (old o₁ o₂ : List ℕ) → wordBytes + lineBytes ≤ length old → o₁ ≡ putAt 0 heldWord old
     → o₂ ≡ putAt wordBytes (writeLine number l 0 0) o₁ → Written (refusalText number l) old o₂ (wordBytes + lineBytes)

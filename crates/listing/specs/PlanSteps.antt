@@ -38,7 +38,7 @@ planOf slots blowers wake counts numbers words =
 pub record CanPutPlan (out : List ℕ) (slots blowers wake : ℕ) (counts numbers words : List ℕ) : Type 0 where
   pub counted : Day counts slots
   pub few : blowers ≤ maxBlowers
-  pub cheap : wake ≤ maxWake
+  pub wake-most : wake ≤ maxWake
   pub tanks : length numbers ≡ fields * maxRations
   pub long : length words ≡ 96
   pub words-fit : (t : ℕ) → t < slots → getD words t 0 < 2 ^ 64
@@ -66,7 +66,7 @@ module _ (slots m q : ℕ) (counts numbers words old : List ℕ) (can : CanPutPl
       )
 
   pub plan-can-charge : CanCharge counts slots m q
-  plan-can-charge = record { counted = can .counted; few = can .few; cheap = can .cheap }
+  plan-can-charge = record { counted = can .counted; few = can .few; wake-most = can .wake-most }
 
   module _ (o₁ : List ℕ) (e₁ : o₁ ≡ putAt 0 planWord old) where
     same₁ : length o₁ ≡ length old

@@ -120,3 +120,13 @@ comparedOf a b =
 -- its whole output for its input: the listing, or the refusal
 unfoldable pub output : List ℕ → List ℕ
 output b = let r : Refusal = planRefusal b false in cond (writes (r .number)) (listingOf (sheetOf b)) (refusalText (r .number) (r .line))
+
+-- what the call `answer` gives: number and line as planning does, and the length of the output, which a buffer that is too short does not take
+unfoldable pub outputAnswer : List ℕ → Bool → Planned
+outputAnswer b short =
+    let r : Refusal = planRefusal b short in
+    record { number = r .number; line = r .line; length = cond short 0 (length (output b)) }
+
+-- the buffer afterwards: bytes after the output keep their values
+unfoldable pub outputAfter : List ℕ → Bool → List ℕ → List ℕ
+outputAfter b short old = cond short old (over (output b) old)

@@ -6,10 +6,10 @@ use Rattle.sheet.specs.Limits.{lineBytes, maxSlots, maxBlowers, maxRations}
 abbrev pub wordBytes : ℕ
 wordBytes = 5
 
--- bytes of the longest plan, 32,282: its word, its head line, and for each slot of each blower a stretch line and a feed line
+-- the least length of a plan buffer, 32,282: room for the word, the head line, and a stretch line and a feed line for each slot of each blower
 abbrev pub planBytes : ℕ
 planBytes = wordBytes + lineBytes * (1 + 2 * (maxSlots * maxBlowers))
 
--- bytes of the placing buffer, 6,144: one for each slot of each ration
+-- the least length of a placing buffer, 6,144: a byte for each slot of each ration
 abbrev pub gridBytes : ℕ
 gridBytes = maxSlots * maxRations

@@ -2,7 +2,7 @@
 use mathlib.Core.Path.{_≡_, refl, sym, ap, ap₂, _∙_}
 use mathlib.Core.Bool.{Bool, true, false, cond}
 use mathlib.Core.List.{List, [], _∷_, _++_, map}
-use Prim.Native.Nat.{ℕ, suc, _+_, _<_}
+use Prim.Native.Nat.{ℕ, suc, _+_, _≤_, _<_}
 use native.Mathlib.Omega.{arith}
 use lib.Dec.{eqb}
 use lib.ListN.{length}
@@ -12,6 +12,11 @@ use Rattle.placing.specs.Slots.{Slots, has}
 use Rattle.listing.specs.Lines.{line, membersFrom, memberLines}
 use Rattle.listing.specs.ReadListing.{slotSet}
 use Rattle.listing.specs.ListLaws.{map-range-cong, flatMap-range-cong, flatMap-range-suc}
+
+pub count-le : (q : Slots) → count q ≤ length q
+count-le [] = omega arith
+count-le (true ∷ q) = omega (arith, count-le q)
+count-le (false ∷ q) = omega (arith, count-le q)
 
 pub length-membersFrom : (t : ℕ) (q : Slots) → length (membersFrom t q) ≡ count q
 unfolding membersFrom

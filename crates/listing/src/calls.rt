@@ -9,14 +9,12 @@ use sheet::Reading;
 use stretches::Day;
 ghost use mathlib.Core.Path.{_≡_};
 ghost use mathlib.Core.Bool.{false, _||_};
-ghost use Prim.Native.Nat.{_≤_, _*_};
+ghost use Prim.Native.Nat.{_≤_};
 ghost use lib.ListN.{length};
-ghost use Rattle.common.specs.Lists.{count};
 ghost use Rattle.sheet.specs.Sheet.{sheetOf};
 ghost use Rattle.listing.specs.Sizes.{planBytes, gridBytes};
-ghost use Rattle.listing.specs.Inputs.{setOf};
 ghost use Rattle.listing.specs.Planning.{planRefusal, shortPlan, shortGrid, listedAnswer, unlistedAnswer, listingAfter, gridAfter};
-ghost use Rattle.listing.specs.CallSteps.{ReadSheet, DayFound, SomeSheetDay, DayListed, DayPlaced, NumberOf};
+ghost use Rattle.listing.specs.SheetDays.{ReadSheet, DayFound, SomeSheetDay, DayListed, DayPlaced, NumberOf};
 
 // A refusal's answer: nothing was written.
 fn refuse(number: u32, line: u32) -> Planned
@@ -27,22 +25,6 @@ fn refuse(number: u32, line: u32) -> Planned
         line,
         length: 0,
     }
-}
-
-// How many slots of the day are marked.
-fn marked_slots(slots: usize, marks: &[u8; 96]) -> u32
-    requires { ⌜ (slots ≤ 96) × (length (now marks) ≡ 96) ⌝ }
-    ensures { λ r. ⌜ (r ≡ count (setOf slots (now (marks .entry)))) × (r ≤ 96) ⌝ }
-{
-    let mut n: u32 = 0;
-    let mut t = 0;
-    while t < slots {
-        if marks[t] != 0 {
-            n += 1;
-        }
-        t += 1;
-    }
-    n
 }
 
 // The day of an accepted sheet.
@@ -67,8 +49,7 @@ fn list_day(sheet: Reading, day: Day, out: &mut [u8]) -> usize
     let slots = sheet.slots as usize;
     if day.held {
         let marks = day.marks;
-        let capacity = marked_slots(slots, &marks) * sheet.blowers;
-        return held::put_held(out, slots, &marks, day.forced, capacity);
+        return held::put_held(out, slots, sheet.blowers, &marks, day.forced);
     }
     let counts = day.counts;
     let numbers = sheet.numbers;

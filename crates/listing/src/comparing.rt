@@ -9,7 +9,7 @@ ghost use Prim.Native.Nat.{_≤_};
 ghost use lib.ListN.{length, take};
 ghost use Rattle.common.specs.Lists.{same};
 ghost use Rattle.listing.specs.Planning.{comparedOf};
-ghost use Rattle.listing.specs.CallSteps.{SomeSheetDay};
+ghost use Rattle.listing.specs.SheetDays.{SomeSheetDay};
 ghost use Rattle.listing.specs.CompareSteps.{DaysCompared};
 
 // A refusal's answer: not the same.

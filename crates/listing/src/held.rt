@@ -3,7 +3,9 @@ use crate::opening;
 use crate::sizes::WORD;
 use sheet::limits::LINE;
 ghost use mathlib.Core.Path.{_≡_};
+ghost use Prim.Native.Nat.{_*_};
 ghost use lib.Dec.{ltb};
+ghost use Rattle.common.specs.Lists.{count};
 ghost use Rattle.listing.specs.Lines.{memberLines};
 ghost use Rattle.listing.specs.Text.{heldText};
 ghost use Rattle.listing.specs.Inputs.{setOf};
@@ -37,13 +39,14 @@ fn put_members(out: &mut [u8], at: usize, slots: usize, marks: &[u8; 96]) -> usi
     n
 }
 
-// Writes the listing of a held sheet, whose set of slots is marked, and answers its length.
-pub fn put_held(out: &mut [u8], slots: usize, marks: &[u8; 96], forced: u32, capacity: u32) -> usize
-    requires { ⌜ CanPutHeld (now out) slots (now marks) ⌝ }
-    ensures { λ r. ⌜ Written (heldText (setOf slots (now (marks .entry))) forced capacity) (now (out .entry)) (now (out .exit)) r ⌝ }
+// Writes the listing of a held sheet, whose set of slots is marked, and answers its length. Every slot has the same number of blowers.
+pub fn put_held(out: &mut [u8], slots: usize, blowers: u32, marks: &[u8; 96], forced: u32) -> usize
+    requires { ⌜ CanPutHeld (now out) slots blowers (now marks) ⌝ }
+    ensures { λ r. ⌜ Written (heldText (setOf slots (now (marks .entry))) forced (count (setOf slots (now (marks .entry))) * blowers)) (now (out .entry)) (now (out .exit)) r ⌝ }
 {
     opening::put_word(out, b'H', b'E', b'L', b'D');
     let n = put_members(out, WORD + LINE, slots, marks);
-    sheet::put_line(out, WORD, 12, n as u32, forced, capacity);
+    let shown = n as u32;
+    sheet::put_line(out, WORD, 12, shown, forced, shown * blowers);
     WORD + LINE * (n + 1)
 }

@@ -1,5 +1,5 @@
 -- `listing::calls::day_of` meets its contract. Assumes nothing.
-use Rattle.listing.specs.CallSteps.{read-blowers, read-rations, day-found}
+use Rattle.listing.specs.SheetDays.{read-blowers, read-rations, day-found}
 use native.Mathlib.Omega.{arith}
 use borrow.Author.Needs.{needs}
 use Rattle.listing.proofs.calls.day_of.Statement.{statement}

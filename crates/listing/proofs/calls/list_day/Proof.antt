@@ -1,9 +1,5 @@
 -- `listing::calls::list_day` meets its contract. Assumes nothing.
-use mathlib.Core.Path.{ap}
-use Prim.Native.Nat.{_*_}
-use native.Mathlib.Nat.{mul-le-mul}
-use Rattle.listing.specs.CallSteps.{day-slots, day-marks, day-blowers, plan-can, plan-written, held-can, held-written}
-use native.Mathlib.Omega.{arith}
+use Rattle.listing.specs.SheetDays.{plan-can, plan-written, held-can, held-written}
 use borrow.Author.Needs.{needs}
 use Rattle.listing.proofs.calls.list_day.Statement.{statement}
 use Rattle.listing.proofs.calls.list_day.Tie as tie
@@ -11,20 +7,14 @@ use Rattle.listing.proofs.calls.list_day.Tie as tie
 cast-slots : tie.Need-cast-slots
 cast-slots c = search needs
 
-marked-slots-requires : tie.Need-marked-slots-requires
-marked-slots-requires c κs = (day-slots (c .before .before .before .before .before .pre .0 .day), day-marks (c .before .before .before .before .before .pre .0 .day))
-
-mul-capacity : tie.Need-mul-capacity
-mul-capacity c = omega (arith, mul-le-mul (c .before .marked-slots .ensures .1) (day-blowers (c .before .before .before .before .before .before .before .pre .0 .day)))
-
 put-held-requires : tie.Need-put-held-requires
-put-held-requires c κs = held-can (c .before .before .before .before .before .before .before .before .before .pre .0 .day) (c .before .before .before .before .before .before .if1 .taken) _ (c .before .before .before .before .before .before .before .before .before .pre .1)
+put-held-requires c κs = held-can (c .before .before .before .before .before .before .pre .0 .day) (c .before .before .before .if1 .taken) _ (c .before .before .before .before .before .before .pre .1)
 
 same-length : tie.Need-same-length
 same-length c = search needs
 
 returns : tie.Need-returns
-returns c = λ b h. held-written h (c .before .before .before .before .before .before .before .before .before .if1 .taken) (ap (λ n. n * c .before .before .before .before .before .before .before .before .before .before .before .before .args .sheet .blowers) (c .before .before .before .before .before .before .marked-slots .ensures .0)) (c .before .before .put-held .ensures)
+returns c = λ b h. held-written h (c .before .before .before .before .before .before .if1 .taken) (c .before .before .put-held .ensures)
 
 put-plan-requires : tie.Need-put-plan-requires
 put-plan-requires c κs = plan-can (c .before .before .before .before .before .before .before .before .before .before .pre .0 .day) (c .before .before .before .before .before .before .before .if1 .left) _ (c .before .before .before .before .before .before .before .before .before .before .pre .1)
@@ -40,8 +30,6 @@ list-day-spec =
     tie.close
     (tie.spec
     cast-slots
-    marked-slots-requires
-    mul-capacity
     put-held-requires
     same-length
     returns

@@ -1,5 +1,5 @@
 -- `listing::calls::place_day` meets its contract. Assumes nothing.
-use Rattle.listing.specs.CallSteps.{grid-can, grid-written, held-grid}
+use Rattle.listing.specs.SheetDays.{grid-can, grid-written, held-grid}
 use borrow.Author.Needs.{needs}
 use Rattle.listing.proofs.calls.place_day.Statement.{statement}
 use Rattle.listing.proofs.calls.place_day.Tie as tie

@@ -1,5 +1,5 @@
 -- `listing::comparing::same_days` meets its contract. Assumes nothing.
-use Rattle.listing.specs.CallSteps.{day-slots}
+use Rattle.listing.specs.SheetDays.{day-slots}
 use Rattle.listing.specs.CompareSteps.{days-other-slots, days-counts}
 use borrow.Author.Needs.{needs}
 use Rattle.listing.proofs.comparing.same_days.Statement.{statement}

@@ -1,48 +1,41 @@
--- What a planning call knows of a sheet that it read and of its day, and how that makes the answers of Planning.antt. Assumes nothing.
-use mathlib.Core.Path.{_≡_, refl, sym, ap, ap₂, _∙_, subst}
-use mathlib.Core.Bool.{Bool, true, false, _||_, not, cond, true≢false, false≢true}
-use mathlib.Core.List.{List, [], _∷_, _++_, map, map-append}
-use Prim.Native.Nat.{ℕ, zero, suc, _+_, _*_, _^_, _≤_, _<_}
-use native.Mathlib.Nat.{le-trans}
+-- What a planning call knows of a sheet that it read and of its day. Assumes nothing.
+use mathlib.Core.Path.{_≡_, sym, ap, _∙_, subst}
+use mathlib.Core.Bool.{Bool, true, false, not}
+use mathlib.Core.List.{List, [], map}
+use Prim.Native.Nat.{ℕ, zero, _*_, _≤_, _<_}
 use native.Mathlib.Omega.{arith}
-use lib.Count.{ones}
-use lib.Dec.{ltb, eqb}
-use lib.ListN.{length, getD, take, replicate, length-take, length-replicate}
+use lib.Dec.{eqb}
+use lib.ListN.{length, getD, take}
 use lib.Pow.{pow-mono}
-use lib.Seq.{ext-getD, getD-take, length-take-le, take-suc}
-use native.Mathlib.Numerals.{add-one}
-use borrow.Author.Tests.{eq-eqb, ne-eqb, lt-ltb, le-ltb, not-true, not-false}
+use lib.Seq.{ext-getD, getD-take, length-take-le}
+use borrow.Author.Tests.{eq-eqb, ne-eqb, not-true, not-false}
 use Rattle.common.specs.Lists.{count}
-use Rattle.sheet.specs.declared.Refusal.{Refusal}
 use Rattle.sheet.specs.declared.Reading.{Reading}
-use Rattle.sheet.specs.Limits.{fields, maxSlots, maxBlowers, maxWake, maxRations}
-use Rattle.sheet.specs.Sheet.{Job, Sheet, sheetOf, numbersOf}
-use Rattle.sheet.specs.Checks.{fault, firstRefusal, faults}
-use Rattle.sheet.specs.Calls.{padded, accepted, readingOf, over}
-use Rattle.sheet.specs.CallLaws.{readingOf-accepted, faults-readingOf}
+use Rattle.sheet.specs.Limits.{fields, maxSlots, maxBlowers, maxRations}
+use Rattle.sheet.specs.Sheet.{Sheet, sheetOf, numbersOf}
+use Rattle.sheet.specs.Checks.{faults}
+use Rattle.sheet.specs.Calls.{accepted, readingOf, over}
+use Rattle.sheet.specs.CallLaws.{readingOf-accepted}
 use Rattle.sheet.specs.NumbersLaws.{length-numbersOf}
 use Rattle.sheet.specs.ReadSteps.{length-padded}
 use Rattle.sheet.specs.RangeLaws.{ValuesInRange}
 use Rattle.sheet.specs.WellFormedLaws.{wellFormed-faults}
 use Rattle.theory.specs.SumsOver.{one}
-use Rattle.placing.specs.Slots.{Slots, has}
-use Rattle.placing.specs.Schedules.{Schedule, feasible}
-use Rattle.placing.specs.Shortfall.{forced, capacity, criticalSet}
-use Rattle.placing.specs.Tabulate.{tab, length-tab}
+use Rattle.placing.specs.Slots.{has}
+use Rattle.placing.specs.Shortfall.{forced, capacity}
+use Rattle.placing.specs.Tabulate.{length-tab}
 use Rattle.placing.specs.Represents.{marksOf}
-use Rattle.placing.specs.AsFunctions.{fed, Rows}
+use Rattle.placing.specs.AsFunctions.{fed}
 use Rattle.placing.specs.Calls.{demandsOf, noLow, fullHigh}
 use Rattle.placing.specs.DemandLaws.{length-demandsOf}
 use Rattle.placing.specs.Rations.{Rations, demandsFrom}
-use Rattle.placing.specs.ReadLaws.{Read, read-accepted, refused-before, accepted-before}
+use Rattle.placing.specs.ReadLaws.{Read, read-accepted}
 use Rattle.placing.specs.CellChoice.{ScheduleWords}
 use Rattle.placing.specs.ScheduleWordLaws.{words-load}
 use Rattle.stretches.specs.declared.Day.{Day}
-use Rattle.stretches.specs.Method.{dayBounds, loads}
-use Rattle.stretches.specs.Feedings.{chosen}
+use Rattle.stretches.specs.Method.{loads}
 use Rattle.stretches.specs.Days.{DayPlanned}
 use Rattle.listing.specs.Sizes.{planBytes, gridBytes}
-use Rattle.listing.specs.Lines.{Plan}
 use Rattle.listing.specs.Text.{planText, heldText, gridOf}
 use Rattle.listing.specs.Inputs.{placingOf, setOf}
 use Rattle.listing.specs.InputLaws.{Holds, placingOf-holds, planText-holds, setOf-tab}
@@ -54,7 +47,7 @@ use Rattle.listing.specs.GridSteps.{CanPutGrid}
 use Rattle.listing.specs.FitLaws.{capacity-fullHigh}
 use Rattle.listing.specs.WrittenLaws.{listing-plan, listing-held}
 use Rattle.listing.specs.DayLaws.{length-countsOf, countsOf-le, feedings-load, feedings-rows, length-feedings}
-use Rattle.listing.specs.Planning.{canBePlanned, heldFaults, planRefusal, writes, listedAnswer, unlistedAnswer, listingAfter, gridAfter, countsOf, feedingsOf, planOf, shownSet, listingOf, gridFor}
+use Rattle.listing.specs.Planning.{canBePlanned, countsOf, feedingsOf, planOf, shownSet, listingOf, gridFor}
 
 -- r is what was read of an accepted sheet, and d its day
 pub record SheetDay (b : List ℕ) (r : Reading) (d : Day) : Type 0 where
@@ -125,7 +118,7 @@ module _ {b : List ℕ} {r : Reading} {d : Day} (h : SheetDay b r d) where
         (record {
           counted = record { long = h .planned .counts-long; day = values .head .slots .le };
           few = values .head .blowers .le;
-          cheap = values .head .wake;
+          wake-most = values .head .wake;
           tanks = length-padded (fields * maxRations) (numbersOf (s .jobs)) (omega (arith, length-numbersOf (s .jobs), values .head .rations));
           long = words .long;
           words-fit = λ t l. omega (arith, holds .few t l, pow-mono {i = length (s .jobs)} {j = maxRations} (values .head .rations));
@@ -181,10 +174,10 @@ module _ {b : List ℕ} {r : Reading} {d : Day} (h : SheetDay b r d) where
     unfolding shownSet fullHigh
     length-shown = ap length (h .planned .shown e) ∙ length-tab (s .slots) (marksOf (d .marks))
 
-    pub held-can : (out : List ℕ) → planBytes ≤ length out → CanPutHeld out (r .slots) (d .marks)
+    pub held-can : (out : List ℕ) → planBytes ≤ length out → CanPutHeld out (r .slots) (r .blowers) (d .marks)
     unfolding accepted
     held-can out room =
-        subst (λ x. CanPutHeld out (x .slots) (d .marks)) (sym (h .read)) (record { day = values .head .slots .le; long = h .planned .marks-long; room = room })
+        subst (λ x. CanPutHeld out (x .slots) (x .blowers) (d .marks)) (sym (h .read)) (record { day = values .head .slots .le; few = values .head .blowers .le; long = h .planned .marks-long; room = room })
 
     forced-is : d .forced ≡ forced (demandsOf s) (shownSet s)
     unfolding shownSet fullHigh
@@ -193,19 +186,16 @@ module _ {b : List ℕ} {r : Reading} {d : Day} (h : SheetDay b r d) where
     listed-held : listingOf s ≡ heldText (shownSet s) (forced (demandsOf s) (shownSet s)) (capacity (fullHigh s) (shownSet s))
     listed-held = listing-held s values cannot
 
-    pub held-written : {old new : List ℕ} {n x : ℕ} → x ≡ count (setOf (r .slots) (d .marks)) * r .blowers
-        → Written (heldText (setOf (r .slots) (d .marks)) (d .forced) x) old new n → Written (listingOf s) old new n
+    pub held-written : {old new : List ℕ} {n : ℕ}
+        → Written (heldText (setOf (r .slots) (d .marks)) (d .forced) (count (setOf (r .slots) (d .marks)) * r .blowers)) old new n → Written (listingOf s) old new n
     unfolding accepted
-    held-written {old} {new} {n} {x} f w =
+    held-written {old} {new} {n} w =
         subst (λ y. Written y old new n)
-        (ap (λ y. heldText (setOf (y .slots) (d .marks)) (d .forced) x) (h .read)
-        ∙ ap (λ q. heldText q (d .forced) x) shown
-        ∙ ap (λ y. heldText (shownSet s) y x) forced-is
-        ∙ ap (heldText (shownSet s) (forced (demandsOf s) (shownSet s))) cap
+        (ap (λ y. heldText (setOf (y .slots) (d .marks)) (d .forced) (count (setOf (y .slots) (d .marks)) * y .blowers)) (h .read)
+        ∙ ap (λ q. heldText q (d .forced) (count q * s .blowers)) shown
+        ∙ ap (λ y. heldText (shownSet s) y (count (shownSet s) * s .blowers)) forced-is
+        ∙ ap (heldText (shownSet s) (forced (demandsOf s) (shownSet s))) (sym (capacity-fullHigh s (shownSet s) length-shown))
         ∙ sym listed-held) w
-      where
-        cap : x ≡ capacity (fullHigh s) (shownSet s)
-        cap = f ∙ ap (λ y. count (setOf (y .slots) (d .marks)) * y .blowers) (h .read) ∙ ap (λ q. count q * s .blowers) shown ∙ sym (capacity-fullHigh s (shownSet s) length-shown)
 
     pub held-grid : (old new : List ℕ) → new ≡ over (gridOf []) old → new ≡ over (gridFor s) old
     unfolding gridFor
@@ -264,90 +254,3 @@ read-rations s = read-accepted (s .bytes) _ (s .is) (s .zero) .rations
 
 pub read-blowers : {r : Reading} → ReadSheet r → r .blowers ≤ maxBlowers
 read-blowers s = read-accepted (s .bytes) _ (s .is) (s .zero) .blown
-
--- ---- counting marks
-
-pub marks-begin : (marks : List ℕ) → 0 ≡ count (setOf 0 marks)
-unfolding setOf
-marks-begin marks = refl
-
-marks-next : (marks : List ℕ) (t : ℕ) → t < length marks → count (setOf (t + 1) marks) ≡ count (setOf t marks) + one (ltb 0 (getD marks t 0))
-unfolding setOf
-marks-next marks t l =
-    ap (λ n. count (map (ltb 0) (take n marks))) (add-one t) ∙ ap (λ xs. count (map (ltb 0) xs)) (take-suc marks t 0 l)
-    ∙ ap count (map-append (ltb 0) (take t marks) (getD marks t 0 ∷ [])) ∙ count-snoc (map (ltb 0) (take t marks)) (ltb 0 (getD marks t 0))
-  where
-    count-snoc : (xs : List Bool) (x : Bool) → count (xs ++ (x ∷ [])) ≡ count xs + one x
-    count-snoc [] true = refl
-    count-snoc [] false = refl
-    count-snoc (true ∷ xs) x = omega (arith, count-snoc xs x)
-    count-snoc (false ∷ xs) x = count-snoc xs x
-
-pub marks-marked : (marks : List ℕ) (n t : ℕ) → t < length marks → n ≡ count (setOf t marks) → (getD marks t 0 ≡ 0 → ⊥) → n + 1 ≡ count (setOf (t + 1) marks)
-marks-marked marks n t l e k = omega (arith, e, marks-next marks t l, ap one (lt-ltb 0 (getD marks t 0) (omega arith)))
-
-pub marks-unmarked : (marks : List ℕ) (n t : ℕ) → t < length marks → n ≡ count (setOf t marks) → getD marks t 0 ≡ 0 → n ≡ count (setOf (t + 1) marks)
-marks-unmarked marks n t l e k = omega (arith, e, marks-next marks t l, ap one (le-ltb 0 (getD marks t 0) (omega arith)))
-
--- ---- the answers of the calls
-
-held-refusal : (s : Sheet) (x : Bool) → x ≡ not (canBePlanned s) → firstRefusal (heldFaults s) ≡ record { number = NumberOf x; line = 0 }
-unfolding heldFaults firstRefusal
-held-refusal s true f = ap (λ y. firstRefusal (fault 12 0 y)) (sym f)
-held-refusal s false f = ap (λ y. firstRefusal (fault 12 0 y)) (sym f)
-
-module _ (b : List ℕ) (short : Bool) where
-  abbrev refusal : Refusal
-  refusal = planRefusal b short
-
-  -- refused by 1 to 9
-  pub refusal-read : {r : Reading} → r ≡ readingOf b → (r .number ≡ 0 → ⊥) → refusal ≡ record { number = r .number; line = r .line }
-  unfolding planRefusal
-  refusal-read e n = refused-before b _ e (fault 10 0 short ++ heldFaults (sheetOf b)) n
-
-  module _ {r : Reading} (e : r ≡ readingOf b) (z : r .number ≡ 0) where
-    left : refusal ≡ firstRefusal (fault 10 0 short ++ heldFaults (sheetOf b))
-    unfolding planRefusal
-    left = accepted-before b _ e (fault 10 0 short ++ heldFaults (sheetOf b)) z
-
-    -- refused by 10
-    pub refusal-short : short ≡ true → refusal ≡ record { number = 10; line = 0 }
-    unfolding firstRefusal
-    refusal-short s = left ∙ ap (λ x. firstRefusal (fault 10 0 x ++ heldFaults (sheetOf b))) s
-
-    -- planned, or held for want of blowers
-    pub refusal-day : short ≡ false → {d : Day} → SheetDay b r d → refusal ≡ record { number = NumberOf (d .held); line = 0 }
-    refusal-day s {d} h = left ∙ ap (λ x. firstRefusal (fault 10 0 x ++ heldFaults (sheetOf b))) s ∙ number-held (d .held) (held-is h)
-      where
-        number-held : (x : Bool) → x ≡ not (canBePlanned (sheetOf b)) → firstRefusal (heldFaults (sheetOf b)) ≡ record { number = NumberOf x; line = 0 }
-        number-held x f = held-refusal (sheetOf b) x f
-
--- a refusal that writes nothing
-module _ (r : Refusal) (s : Sheet) (silent : writes (r .number) ≡ false) where
-  pub listed-silent : record { number = r .number; line = r .line; length = 0 } ≡ listedAnswer r s
-  unfolding listedAnswer
-  listed-silent = rw silent
-
-  pub listing-silent : (old : List ℕ) → old ≡ listingAfter r s old
-  unfolding listingAfter
-  listing-silent old = rw silent
-
-  pub grid-silent : (old : List ℕ) → old ≡ gridAfter r s old
-  unfolding gridAfter
-  grid-silent old = rw silent
-
--- one that writes
-module _ (r : Refusal) (s : Sheet) (loud : writes (r .number) ≡ true) where
-  pub listed-loud : {old new : List ℕ} {n : ℕ} → Written (listingOf s) old new n
-      → (record { number = r .number; line = r .line; length = n } ≡ listedAnswer r s) × (new ≡ listingAfter r s old)
-  unfolding listedAnswer listingAfter
-  listed-loud w = (rw loud (λ i. record { number = r .number; line = r .line; length = w .size i }), rw loud (w .bytes))
-
-  pub grid-loud : (old new : List ℕ) → new ≡ over (gridFor s) old → new ≡ gridAfter r s old
-  unfolding gridAfter
-  grid-loud old new w = rw loud w
-
-pub number-loud : (x : Bool) → writes (NumberOf x) ≡ true
-unfolding writes
-number-loud true = refl
-number-loud false = refl
