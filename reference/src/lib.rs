@@ -10,3 +10,4 @@ pub mod listing;
 pub mod method;
 pub mod placing;
 pub mod sheet;
+pub mod through;

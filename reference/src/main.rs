@@ -5,12 +5,14 @@ use reference::damage;
 use reference::draws::Draws;
 use reference::generate::{self, FULL};
 use reference::listing;
+use reference::through::through;
 use std::io::{self, Read, Write};
 use std::process::ExitCode;
 
 const USAGE: &str = "usage: reference plan < sheet > listing
        reference sheet KIND SEED > sheet
        reference cases STREAM-in | STREAM-out
+       reference through PROGRAM
 KIND is random, whole-day, tight, crowded, held or damaged; SEED is a number of 32 bits.
 STREAM is sheet, placing, plan or days.";
 
@@ -36,7 +38,16 @@ fn answer(words: &[&str]) -> Option<io::Result<Vec<u8>>> {
         ["plan"] => Some(read_input().map(|bytes| listing::program(&bytes))),
         ["sheet", kind, seed] => generated(kind, seed.parse().ok()?).map(Ok),
         ["cases", file] => case_file(file).map(Ok),
+        ["through", path] => Some(tried(path)),
         _ => None,
+    }
+}
+
+/// How many inputs a program answered as expected; an error at the first that it did not.
+fn tried(path: &str) -> io::Result<Vec<u8>> {
+    match through(path)? {
+        Ok(count) => Ok(format!("{count} inputs, each answered as expected\n").into_bytes()),
+        Err(input) => Err(io::Error::other(format!("another output for\n{input}"))),
     }
 }
 

@@ -1,28 +1,52 @@
-// Plans a stream of sheets on standard input by the crate `listing`, for comparison with the plans of a second implementation.
+// Plans a stream of sheets on standard input by the crate `listing`, for comparison with the plans of a second implementation. The payload is a sheet.
 //
-// Operation D plans the sheet that is the payload, both buffers lent: `D number line length`, the digest of the listing and that of the whole placing
-// buffer.
-fn plan(sheet: &[u8], room: &mut [u8], grid: &mut [u8]) {
-    cases::fill(room);
-    cases::fill(grid);
-    let r = listing::plan_both(sheet, room, grid);
+// Operation T writes what the program writes for the sheet, as it is.
+// Operation O writes of the same `O number line length` and the digest of the whole lent buffer.
+// Operation D plans the sheet, both buffers lent: `D number line length`, the digest of the listing and that of the whole placing buffer.
+fn write_output(sheet: &[u8]) {
+    let mut room = [0u8; 32282];
+    let r = listing::answer(sheet, &mut room);
+    io::write_all(1, cases::first_part(&room, r.length));
+}
+
+fn digest_output(sheet: &[u8]) {
+    let mut room = [0u8; 32282];
+    cases::fill(&mut room);
+    let r = listing::answer(sheet, &mut room);
+    io::write_all(1, b"O");
+    cases::word(r.number);
+    cases::word(r.line);
+    cases::size(r.length);
+    cases::word(cases::digest(&room));
+    cases::end_line();
+}
+
+fn plan(sheet: &[u8]) {
+    let mut room = [0u8; 32282];
+    let mut grid = [0u8; 6144];
+    cases::fill(&mut room);
+    cases::fill(&mut grid);
+    let r = listing::plan_both(sheet, &mut room, &mut grid);
     io::write_all(1, b"D");
     cases::word(r.number);
     cases::word(r.line);
     cases::size(r.length);
-    cases::word(cases::digest(cases::first_part(room, r.length)));
-    cases::word(cases::digest(grid));
+    cases::word(cases::digest(cases::first_part(&room, r.length)));
+    cases::word(cases::digest(&grid));
     cases::end_line();
 }
 
 // Answers one case.
 fn answer(operation: u8, sheet: &[u8]) {
-    if operation != b'D' {
-        return;
+    if operation == b'T' {
+        write_output(sheet);
     }
-    let mut room = [0u8; 32282];
-    let mut grid = [0u8; 6144];
-    plan(sheet, &mut room, &mut grid);
+    if operation == b'O' {
+        digest_output(sheet);
+    }
+    if operation == b'D' {
+        plan(sheet);
+    }
 }
 
 // Takes the next case from the stream and answers it, with room for its payload; false at the end of the stream.

@@ -1,13 +1,19 @@
-//! Generated sheets of all sizes, planned with both buffers: `D number line length`,
-//! the digest of the listing and that of the placing buffer. The payload is a sheet.
+//! Days by the program's whole output: those of document 01 and each refusal as they
+//! are written, days at the limits by digest. Then generated sheets of all sizes,
+//! planned with both buffers: `D number line length`, the digest of the listing and that
+//! of the placing buffer. The payload is a sheet.
 
+use super::sheets::{
+    beyond_days, document_days, full_day, limit_days, refused_by, settled_days, text,
+    too_long_sheet,
+};
 use super::{digest, lent_buffer, Case};
 use crate::damage::damaged_sheet;
 use crate::draws::Draws;
 use crate::generate::{
     any_sheet, full_sheet, held_full_sheet, tight_sheet, Sizes, FULL, MIDDLE, SMALL,
 };
-use crate::listing::{plan, PLACING_BUFFER, PLAN_BUFFER};
+use crate::listing::{plan, program, PLACING_BUFFER, PLAN_BUFFER};
 
 /// How many sheets of each kind there are within the limits.
 struct Share {
@@ -43,8 +49,35 @@ const SHARES: [Share; 3] = [
 const FULL_SHEETS: u32 = 60;
 const HELD_FULL_SHEETS: u32 = 40;
 
+/// Sheets whose whole output is written: the days of document 01, and those that each
+/// check refuses.
+fn small_sheets() -> Vec<Vec<u8>> {
+    let days = [document_days(), beyond_days()].concat();
+    let days = days.iter().map(|lines| text(lines));
+    days.chain((1..=9).flat_map(refused_by)).collect()
+}
+
+/// Sheets at the limits, and the longest that are refused.
+fn large_sheets() -> Vec<Vec<u8>> {
+    let days = [limit_days(), settled_days(), vec![full_day()]].concat();
+    let mut sheets: Vec<Vec<u8>> = days.iter().map(|lines| text(lines)).collect();
+    sheets.push(too_long_sheet());
+    sheets
+}
+
+/// The sheets that are tried on the program itself.
+pub fn program_sheets() -> Vec<Vec<u8>> {
+    [small_sheets(), large_sheets()].concat()
+}
+
 /// All cases of this gate program.
 pub fn cases() -> Vec<Case> {
+    let written = small_sheets().into_iter().map(|s| Case::new(b'T', 0, s));
+    let digested = large_sheets().into_iter().map(|s| Case::new(b'O', 0, s));
+    written.chain(digested).chain(generated_cases()).collect()
+}
+
+fn generated_cases() -> Vec<Case> {
     let mut draws = Draws::new(41);
     let mut sheets = Vec::new();
     for share in SHARES {
@@ -70,13 +103,31 @@ pub fn cases() -> Vec<Case> {
 
 /// The output expected for these cases.
 pub fn output(cases: &[Case]) -> Vec<u8> {
-    cases.iter().map(answer).collect::<String>().into_bytes()
+    cases.iter().flat_map(answer).collect()
 }
 
-fn answer(case: &Case) -> String {
-    assert_eq!(case.operation, b'D');
+fn answer(case: &Case) -> Vec<u8> {
+    match case.operation {
+        b'T' => program(&case.payload),
+        b'O' => digested(&case.payload).into_bytes(),
+        b'D' => planned(&case.payload).into_bytes(),
+        operation => panic!("no operation {operation}"),
+    }
+}
+
+/// Number, line and length of the program's output, and the digest of a buffer that has
+/// it at its front.
+fn digested(sheet: &[u8]) -> String {
+    let (number, line, _) = plan(sheet, None, None);
+    let output = program(sheet);
+    let mut buffer = lent_buffer(PLAN_BUFFER);
+    buffer[..output.len()].copy_from_slice(&output);
+    format!("O {number} {line} {} {}\n", output.len(), digest(&buffer))
+}
+
+fn planned(sheet: &[u8]) -> String {
     let (mut listing, mut grid) = (lent_buffer(PLAN_BUFFER), lent_buffer(PLACING_BUFFER));
-    let (number, line, length) = plan(&case.payload, Some(&mut listing), Some(&mut grid));
+    let (number, line, length) = plan(sheet, Some(&mut listing), Some(&mut grid));
     let (listing, grid) = (digest(&listing[..length]), digest(&grid));
     format!("D {number} {line} {length} {listing} {grid}\n")
 }
@@ -95,7 +146,10 @@ mod tests {
 
     #[test]
     fn planned_and_held_sheets_of_all_sizes_are_there() {
-        let sheets: Vec<_> = cases().iter().flat_map(|c| read(&c.payload)).collect();
+        let sheets: Vec<_> = generated_cases()
+            .iter()
+            .flat_map(|c| read(&c.payload))
+            .collect();
         let count = |held, rations: usize| {
             let large = |s: &&Sheet| s.rations.len() >= rations;
             let counts = |s: &&Sheet| shown_set(s).is_some() == held;
