@@ -1,0 +1,115 @@
+-- Records taken one after another are the records of the front of the list, and their sheet is that of these records. Assumes nothing.
+use mathlib.Core.Path.{_≡_, refl, sym, ap, ap₂, _∙_}
+use mathlib.Core.List.{List, [], _∷_, _++_, map, map-append}
+use Prim.Native.Nat.{ℕ, zero, suc, min, _+_, _-_, _*_, _≤_, _<_}
+use native.Mathlib.Numerals.{add-one}
+use native.Mathlib.Omega.{arith}
+use lib.ListN.{length, getD, take, drop, set, replicate, length-take, length-map, length-append, length-replicate}
+use lib.Seq.{take-suc, take-at, sets, sets-eq, drop-append-add, length-take-le}
+use Rattle.common.specs.ListLaws.{flatMap-append, drop-replicate}
+use Rattle.sheet.specs.Limits.{fields}
+use Rattle.sheet.specs.Sheet.{numbersOf, jobsOf}
+use Rattle.sheet.specs.Calls.{padded, sheetFrom}
+use Rattle.sheet.specs.NumbersLaws.{length-numbersOf, jobsOf-numbersOf}
+use Rattle.sheet.specs.ReadSteps.{length-padded}
+use Rattle.records.specs.declared.Ration.{Ration}
+use Rattle.records.specs.Records.{jobOf, recordSheet, takenMost}
+use Rattle.records.specs.Flat.{flatOf, flatSheet, IsFlat, emptyFlat, added, noRation, takenTo}
+
+-- ---- one record after another
+
+pub count-takenTo : (i : ℕ) (rs : List Ration) → takenTo i rs .count ≡ i
+unfolding takenTo added emptyFlat
+count-takenTo zero rs = refl
+count-takenTo (suc i) rs = add-one (takenTo i rs .count) ∙ ap suc (count-takenTo i rs)
+
+-- the numbers of a record
+abbrev numbersAt : Ration → List ℕ
+numbersAt r = r .tank ∷ r .first ∷ r .last ∷ r .volume ∷ []
+
+abbrev front : List Ration → ℕ → List ℕ
+front rs i = numbersOf (map jobOf (take i rs))
+
+length-front : (rs : List Ration) (i : ℕ) → i ≤ length rs → length (front rs i) ≡ fields * i
+length-front rs i h = length-numbersOf (map jobOf (take i rs)) ∙ ap (λ k. fields * k) (length-map (take i rs) jobOf ∙ length-take-le i rs h)
+
+front-suc : (rs : List Ration) (i : ℕ) → i < length rs → front rs (suc i) ≡ front rs i ++ numbersAt (getD rs i noRation)
+unfolding numbersOf jobOf
+front-suc rs i h =
+    ap (λ l. numbersOf (map jobOf l)) (take-suc rs i noRation h) ∙ ap numbersOf (map-append jobOf (take i rs) (getD rs i noRation ∷ []))
+    ∙ flatMap-append _ (map jobOf (take i rs)) (jobOf (getD rs i noRation) ∷ [])
+
+-- four stores are one run of stores
+stores : (l : List ℕ) (at a b c d : ℕ) → set (set (set (set l at a) (at + 1) b) (at + 2) c) (at + 3) d ≡ sets l at (a ∷ b ∷ c ∷ d ∷ [])
+stores l at a b c d =
+    let e : at + 1 ≡ suc at = omega arith in
+    let f : at + 2 ≡ suc (suc at) = omega arith in
+    let g : at + 3 ≡ suc (suc (suc at)) = omega arith in
+    rw (e, f, g)
+
+-- a run of stores just after xs, in zeros
+stores-after : (n : ℕ) (xs vs : List ℕ) → length xs + length vs ≤ n → sets (padded n xs) (length xs) vs ≡ padded n (xs ++ vs)
+unfolding padded
+stores-after n xs vs h =
+    sets-eq vs (xs ++ zeros) (length xs) (omega (arith, length-append xs zeros, length-replicate {A = ℕ} (n - length xs) 0))
+    ∙ ap (λ a. a ++ vs ++ drop (length xs + length vs) (xs ++ zeros)) (take-at xs zeros (length xs) refl) ∙ ap (λ b. xs ++ vs ++ b) behind
+  where
+    zeros : List ℕ
+    zeros = replicate (n - length xs) 0
+
+    left : n - length xs - length vs ≡ n - length (xs ++ vs)
+    left = omega (arith, length-append xs vs)
+
+    behind : drop (length xs + length vs) (xs ++ zeros) ≡ replicate (n - length (xs ++ vs)) 0
+    behind = drop-append-add xs zeros (length vs) ∙ drop-replicate (length vs) (n - length xs) 0 ∙ ap (λ k. replicate k 0) left
+
+-- the four stores of `added`
+abbrev stored : List ℕ → ℕ → Ration → List ℕ
+stored l at r = set (set (set (set l at (r .tank)) (at + 1) (r .first)) (at + 2) (r .last)) (at + 3) (r .volume)
+
+numbers-takenTo : (i : ℕ) (rs : List Ration) → i ≤ length rs → i ≤ takenMost → takenTo i rs .numbers ≡ padded (fields * takenMost) (front rs i)
+unfolding takenTo added emptyFlat padded numbersOf
+numbers-takenTo zero rs h k = refl
+numbers-takenTo (suc i) rs h k =
+    let r = getD rs i noRation in
+    let l = padded (fields * takenMost) (front rs i) in
+    let e = length-front rs i (omega arith) in
+    ap₂ (λ x n. stored x (fields * n) r) (numbers-takenTo i rs (omega arith) (omega arith)) (count-takenTo i rs) ∙ stores l (fields * i) (r .tank) (r .first) (r .last) (r .volume)
+    ∙ ap (λ at. sets l at (numbersAt r)) (sym e) ∙ stores-after (fields * takenMost) (front rs i) (numbersAt r) (omega (arith, e)) ∙ ap (padded (fields * takenMost)) (sym (front-suc rs i h))
+
+-- ---- all that are taken
+
+take-taken : {A : Type 0} (n : ℕ) (l : List A) → take (length (take n l)) l ≡ take n l
+take-taken zero l = refl
+take-taken (suc n) [] = refl
+take-taken (suc n) (x ∷ l) = ap (λ r. x ∷ r) (take-taken n l)
+
+pub takenTo-flatOf : (rs : List Ration) → takenTo (min (length rs) takenMost) rs ≡ flatOf rs
+unfolding flatOf
+takenTo-flatOf rs =
+    let k = length (take takenMost rs) in
+    let e : min (length rs) takenMost ≡ k = omega (arith, length-take takenMost rs) in
+    let c = count-takenTo k rs in
+    let n =
+    numbers-takenTo k rs (omega (arith, length-take takenMost rs)) (omega (arith, length-take takenMost rs)) ∙ ap (λ l. padded (fields * takenMost) (numbersOf (map jobOf l))) (take-taken takenMost rs)
+    in
+    ap (λ i. takenTo i rs) e ∙ (λ i. record { count = c i; numbers = n i })
+
+length-numbers : (rs : List Ration) → length (numbersOf (map jobOf (take takenMost rs))) ≡ fields * length (take takenMost rs)
+length-numbers rs = length-numbersOf (map jobOf (take takenMost rs)) ∙ ap (λ k. fields * k) (length-map (take takenMost rs) jobOf)
+
+pub isFlat-flatOf : (rs : List Ration) → IsFlat (flatOf rs)
+unfolding flatOf
+isFlat-flatOf rs =
+    record {
+      few = omega (arith, length-take takenMost rs);
+      long = length-padded (fields * takenMost) (numbersOf (map jobOf (take takenMost rs))) (omega (arith, length-numbers rs, length-take takenMost rs));
+    }
+
+-- the sheet of the numbers taken is that of the records taken
+pub flatSheet-flatOf : (slots blowers wake : ℕ) (rs : List Ration) → flatSheet slots blowers wake (flatOf rs) ≡ recordSheet slots blowers wake (take takenMost rs)
+unfolding flatSheet flatOf padded sheetFrom recordSheet
+flatSheet-flatOf slots blowers wake rs =
+    let js = map jobOf (take takenMost rs) in
+    let e = ap jobsOf (take-at (numbersOf js) _ (fields * length (take takenMost rs)) (length-numbers rs)) ∙ jobsOf-numbersOf js in
+    λ i. record { slots = slots; blowers = blowers; wake = wake; jobs = e i }
