@@ -1,0 +1,328 @@
+/* Every call of the library, on the days of document 01 ("Days at the edge"): what it answers, what it writes, and what keeps its value. */
+#include "kiwimound.h"
+
+#include <stdio.h>
+#include <string.h>
+
+static unsigned failures = 0;
+
+#define EXPECT(fact) \
+    do { \
+        if (!(fact)) { \
+            printf("tests.c:%d: %s\n", __LINE__, #fact); \
+            failures++; \
+        } \
+    } while (0)
+
+/* A sheet's bytes and their number, for a call's first two arguments. */
+#define LEND(text) (const uint8_t *)(text), sizeof(text) - 1
+
+#define FOUR_SLOTS \
+    "    4    2    2    3\n" \
+    "    1    1    2    2\n" \
+    "    2    1    4    2\n" \
+    "    3    2    3    1\n"
+
+#define FOUR_SLOTS_PLAN \
+    "PLAN\n" \
+    "   10    2    4    5\n" \
+    "    1    1    4    2\n" \
+    "    2    1    2    0\n" \
+    "    2    3    3    2\n" \
+    "    2    4    4    1\n" \
+    "    1    1    1    1\n" \
+    "    2    1    1    2\n" \
+    "    3    1    2    1\n" \
+    "    3    2    3    1\n" \
+    "    4    1    2    2\n"
+
+#define HELD \
+    "    3    1    1    2\n" \
+    "    1    1    2    2\n" \
+    "    2    2    3    2\n"
+
+#define HELD_LISTING \
+    "HELD\n" \
+    "   12    1    2    1\n" \
+    "    2    0    0    0\n"
+
+#define ONE_FEEDING \
+    "    3    1    1    1\n" \
+    "    1    1    3    1\n"
+
+/* The same counts from another ration. */
+#define LAST_SLOT \
+    "    3    1    1    1\n" \
+    "    7    3    3    1\n"
+
+#define BAD_WINDOW \
+    "    3    1    1    2\n" \
+    "    1    1    2    2\n" \
+    "    2    2    4    2\n"
+
+enum { GUARD = 0xA5, SPARE = 7 }; /* the value of bytes that must keep it, and bytes lent beyond the least length */
+
+static uint8_t listing[KIWIMOUND_LISTING_BYTES + SPARE];
+static uint8_t placing[KIWIMOUND_PLACING_BYTES + SPARE];
+
+static void guard(void)
+{
+    memset(listing, GUARD, sizeof listing);
+    memset(placing, GUARD, sizeof placing);
+}
+
+/* From a place on, every byte has its value from before. */
+static bool kept(const uint8_t *bytes, size_t length, size_t from)
+{
+    for (size_t i = from; i < length; i++)
+        if (bytes[i] != GUARD)
+            return false;
+    return true;
+}
+
+static bool is_listing(kiwimound_planned p, const char *text)
+{
+    const size_t length = strlen(text);
+    return p.length == length && memcmp(listing, text, length) == 0 && kept(listing, sizeof listing, length);
+}
+
+/* The placing of FOUR_SLOTS: ration 1 in the slots 1 and 2, ration 2 in 3 and 4, ration 3 in 3. */
+static bool is_four_slots_placing(void)
+{
+    static const unsigned fed[5][2] = {{1, 1}, {1, 2}, {2, 3}, {3, 3}, {2, 4}}; /* ration, slot */
+    uint8_t expected[KIWIMOUND_PLACING_BYTES] = {0};
+    for (size_t i = 0; i < 5; i++)
+        expected[(fed[i][0] - 1) * KIWIMOUND_MAX_SLOTS + fed[i][1] - 1] = 1;
+    return memcmp(placing, expected, sizeof expected) == 0 && kept(placing, sizeof placing, sizeof expected);
+}
+
+static bool is_empty_placing(void)
+{
+    for (size_t i = 0; i < KIWIMOUND_PLACING_BYTES; i++)
+        if (placing[i] != 0)
+            return false;
+    return kept(placing, sizeof placing, KIWIMOUND_PLACING_BYTES);
+}
+
+static void test_read(void)
+{
+    static const uint32_t numbers[12] = {1, 1, 2, 2, 2, 1, 4, 2, 3, 2, 3, 1};
+    const kiwimound_reading r = kiwimound_read(LEND(FOUR_SLOTS));
+    EXPECT(r.number == 0 && r.line == 0 && r.slots == 4 && r.blowers == 2 && r.wake == 2 && r.rations == 3);
+    EXPECT(memcmp(r.numbers, numbers, sizeof numbers) == 0);
+    for (size_t i = 12; i < 256; i++)
+        EXPECT(r.numbers[i] == 0);
+
+    const kiwimound_reading bad = kiwimound_read(LEND(BAD_WINDOW));
+    EXPECT(bad.number == KIWIMOUND_BAD_WINDOW && bad.line == 3 && bad.slots == 0 && bad.rations == 0);
+    for (size_t i = 0; i < 256; i++)
+        EXPECT(bad.numbers[i] == 0);
+    EXPECT(kiwimound_read(LEND("")).number == KIWIMOUND_BAD_LENGTH);
+    EXPECT(kiwimound_read(LEND("   97    1    1    0\n")).number == KIWIMOUND_BAD_SLOTS);
+    EXPECT(kiwimound_read(LEND("    3    9    1    0\n")).number == KIWIMOUND_BAD_BLOWERS);
+    EXPECT(kiwimound_read(LEND("    3    1  201    0\n")).number == KIWIMOUND_BAD_WAKE);
+}
+
+static void test_write(void)
+{
+    static const uint32_t numbers[12] = {1, 1, 2, 2, 2, 1, 4, 2, 3, 2, 3, 1};
+    const size_t length = sizeof FOUR_SLOTS - 1;
+    guard();
+    kiwimound_written w = kiwimound_write(4, 2, 2, 3, numbers, 12, listing, length + SPARE);
+    EXPECT(w.number == 0 && w.line == 0 && w.length == length && length == KIWIMOUND_SHEET_BYTES(3));
+    EXPECT(memcmp(listing, FOUR_SLOTS, length) == 0 && kept(listing, sizeof listing, length));
+
+    guard();
+    w = kiwimound_write(4, 2, 2, 3, numbers, 12, listing, length - 1);
+    EXPECT(w.number == KIWIMOUND_SHORT_BUFFER && w.line == 0 && w.length == 0);
+    w = kiwimound_write(4, 2, 2, 3, numbers, 8, listing, length);
+    EXPECT(w.number == KIWIMOUND_BAD_RATIONS && w.line == 1 && w.length == 0);
+    w = kiwimound_write(3, 2, 2, 3, numbers, 12, listing, length);
+    EXPECT(w.number == KIWIMOUND_BAD_WINDOW && w.line == 3 && w.length == 0);
+    EXPECT(kiwimound_write(97, 1, 1, 0, numbers, 0, listing, length).number == KIWIMOUND_BAD_SLOTS);
+    EXPECT(kiwimound_write(3, 9, 1, 0, numbers, 0, listing, length).number == KIWIMOUND_BAD_BLOWERS);
+    EXPECT(kiwimound_write(3, 1, 201, 0, numbers, 0, listing, length).number == KIWIMOUND_BAD_WAKE);
+    EXPECT(kept(listing, sizeof listing, 0));
+}
+
+static void test_find(void)
+{
+    kiwimound_part p = kiwimound_find(LEND(FOUR_SLOTS), 2);
+    EXPECT(p.start == 42 && p.length == KIWIMOUND_LINE_BYTES);
+    p = kiwimound_find(LEND(FOUR_SLOTS), 9);
+    EXPECT(p.start == 0 && p.length == 0);
+    p = kiwimound_find(LEND(HELD), 2);
+    EXPECT(p.start == 42 && p.length == KIWIMOUND_LINE_BYTES);
+    p = kiwimound_find(LEND(BAD_WINDOW), 1);
+    EXPECT(p.start == 0 && p.length == 0);
+}
+
+static void test_shortfall(void)
+{
+    static const uint8_t first[3] = {1, 0, 0}, all[3] = {1, 1, 1}, fourth[4] = {0, 0, 0, 1}, two[3] = {0, 2, 0};
+    kiwimound_shortfall_answer a = kiwimound_shortfall(LEND(HELD), first, 3);
+    EXPECT(a.number == 0 && a.line == 0 && a.shortfall == 0);
+    a = kiwimound_shortfall(LEND(HELD), all, 3);
+    EXPECT(a.number == 0 && a.shortfall == 1);
+    a = kiwimound_shortfall(LEND(FOUR_SLOTS), fourth, 4);
+    EXPECT(a.number == 0 && a.shortfall == -2);
+    a = kiwimound_shortfall(LEND(HELD), all, 2);
+    EXPECT(a.number == KIWIMOUND_BAD_LIST && a.line == 0 && a.shortfall == 0);
+    a = kiwimound_shortfall(LEND(HELD), two, 3);
+    EXPECT(a.number == KIWIMOUND_BAD_LIST && a.shortfall == 0);
+    a = kiwimound_shortfall(LEND(BAD_WINDOW), all, 3);
+    EXPECT(a.number == KIWIMOUND_BAD_WINDOW && a.line == 3 && a.shortfall == 0);
+}
+
+static void test_bounds(void)
+{
+    static const uint32_t none[3] = {0, 0, 0}, full[3] = {1, 1, 1}, above[3] = {9, 9, 4000000000u};
+    static const uint32_t early[3] = {1, 1, 0}, second[3] = {0, 1, 0}, third[3] = {0, 0, 1};
+    kiwimound_bounds_answer a = kiwimound_bounds(LEND(ONE_FEEDING), none, 3, full, 3);
+    EXPECT(a.number == 0 && a.line == 0 && a.yes);
+    EXPECT(kiwimound_bounds(LEND(ONE_FEEDING), third, 3, above, 3).yes);
+    a = kiwimound_bounds(LEND(ONE_FEEDING), early, 3, full, 3);
+    EXPECT(a.number == 0 && !a.yes);
+    a = kiwimound_bounds(LEND(ONE_FEEDING), second, 3, third, 3);
+    EXPECT(a.number == 0 && !a.yes);
+    a = kiwimound_bounds(LEND(HELD), none, 3, full, 3);
+    EXPECT(a.number == 0 && !a.yes);
+    a = kiwimound_bounds(LEND(ONE_FEEDING), none, 2, full, 3);
+    EXPECT(a.number == KIWIMOUND_BAD_LIST && a.line == 0 && !a.yes);
+    a = kiwimound_bounds(LEND(ONE_FEEDING), none, 3, full, 2);
+    EXPECT(a.number == KIWIMOUND_BAD_LIST && a.line == 0 && !a.yes);
+}
+
+static void test_planned(void)
+{
+    guard();
+    kiwimound_planned p = kiwimound_plan(LEND(FOUR_SLOTS), listing, sizeof listing);
+    EXPECT(p.number == 0 && p.line == 0 && is_listing(p, FOUR_SLOTS_PLAN));
+    guard();
+    p = kiwimound_plan_placing(LEND(FOUR_SLOTS), placing, sizeof placing);
+    EXPECT(p.number == 0 && p.line == 0 && p.length == 0 && is_four_slots_placing());
+    guard();
+    p = kiwimound_plan_both(LEND(FOUR_SLOTS), listing, sizeof listing, placing, sizeof placing);
+    EXPECT(p.number == 0 && p.line == 0 && is_listing(p, FOUR_SLOTS_PLAN) && is_four_slots_placing());
+    p = kiwimound_plan_number(LEND(FOUR_SLOTS));
+    EXPECT(p.number == 0 && p.line == 0 && p.length == 0);
+}
+
+static void test_held(void)
+{
+    guard();
+    kiwimound_planned p = kiwimound_plan(LEND(HELD), listing, sizeof listing);
+    EXPECT(p.number == KIWIMOUND_HELD && p.line == 0 && is_listing(p, HELD_LISTING));
+    guard();
+    p = kiwimound_plan_placing(LEND(HELD), placing, sizeof placing);
+    EXPECT(p.number == KIWIMOUND_HELD && p.line == 0 && p.length == 0 && is_empty_placing());
+    guard();
+    p = kiwimound_plan_both(LEND(HELD), listing, sizeof listing, placing, sizeof placing);
+    EXPECT(p.number == KIWIMOUND_HELD && p.line == 0 && is_listing(p, HELD_LISTING) && is_empty_placing());
+    p = kiwimound_plan_number(LEND(HELD));
+    EXPECT(p.number == KIWIMOUND_HELD && p.line == 0 && p.length == 0);
+}
+
+/* Refusals other than 12: nothing is written, and a sheet's own refusal comes before that of a buffer. */
+static void test_refused(void)
+{
+    const size_t whole = KIWIMOUND_LISTING_BYTES, grid = KIWIMOUND_PLACING_BYTES;
+    guard();
+    kiwimound_planned p = kiwimound_plan(LEND(HELD), listing, whole - 1);
+    EXPECT(p.number == KIWIMOUND_SHORT_BUFFER && p.line == 0 && p.length == 0);
+    p = kiwimound_plan_placing(LEND(FOUR_SLOTS), placing, grid - 1);
+    EXPECT(p.number == KIWIMOUND_SHORT_BUFFER && p.line == 0 && p.length == 0);
+    p = kiwimound_plan_both(LEND(FOUR_SLOTS), listing, whole - 1, placing, grid);
+    EXPECT(p.number == KIWIMOUND_SHORT_BUFFER && p.line == 0 && p.length == 0);
+    p = kiwimound_plan_both(LEND(FOUR_SLOTS), listing, whole, placing, grid - 1);
+    EXPECT(p.number == KIWIMOUND_SHORT_BUFFER && p.line == 0 && p.length == 0);
+    p = kiwimound_plan_both(LEND(BAD_WINDOW), listing, 0, placing, 0);
+    EXPECT(p.number == KIWIMOUND_BAD_WINDOW && p.line == 3 && p.length == 0);
+    p = kiwimound_plan_number(LEND(BAD_WINDOW));
+    EXPECT(p.number == KIWIMOUND_BAD_WINDOW && p.line == 3 && p.length == 0);
+    EXPECT(kept(listing, sizeof listing, 0) && kept(placing, sizeof placing, 0));
+}
+
+/* The program's output: the refusal's line is written too, but not to a buffer that is too short. */
+static void test_answer(void)
+{
+    guard();
+    kiwimound_planned p = kiwimound_answer(LEND(FOUR_SLOTS), listing, sizeof listing);
+    EXPECT(p.number == 0 && p.line == 0 && is_listing(p, FOUR_SLOTS_PLAN));
+    guard();
+    p = kiwimound_answer(LEND(BAD_WINDOW), listing, sizeof listing);
+    EXPECT(p.number == KIWIMOUND_BAD_WINDOW && p.line == 3 && is_listing(p, "HELD\n    8    3    0    0\n"));
+    guard();
+    p = kiwimound_answer(LEND(BAD_WINDOW), listing, KIWIMOUND_LISTING_BYTES - 1);
+    EXPECT(p.number == KIWIMOUND_BAD_WINDOW && p.line == 3 && p.length == 0 && kept(listing, sizeof listing, 0));
+    p = kiwimound_answer(LEND(HELD), listing, KIWIMOUND_LISTING_BYTES - 1);
+    EXPECT(p.number == KIWIMOUND_SHORT_BUFFER && p.line == 0 && p.length == 0 && kept(listing, sizeof listing, 0));
+}
+
+static void test_compare(void)
+{
+    kiwimound_compared c = kiwimound_compare(LEND(ONE_FEEDING), LEND(LAST_SLOT));
+    EXPECT(c.number == 0 && c.line == 0 && c.same);
+    c = kiwimound_compare(LEND(ONE_FEEDING), LEND(FOUR_SLOTS));
+    EXPECT(c.number == 0 && c.line == 0 && !c.same);
+    c = kiwimound_compare(LEND(HELD), LEND(""));
+    EXPECT(c.number == KIWIMOUND_HELD && c.line == 0 && !c.same);
+    c = kiwimound_compare(LEND(ONE_FEEDING), LEND(BAD_WINDOW));
+    EXPECT(c.number == KIWIMOUND_BAD_WINDOW && c.line == 3 && !c.same);
+}
+
+/* The calls on records: document 01's first sheet, the held one, and one whose second window is faulty. */
+static void test_records(void)
+{
+    static const kiwimound_ration four_slots[] = {{1, 1, 2, 2}, {2, 1, 4, 2}, {3, 2, 3, 1}};
+    static const kiwimound_ration held[] = {{1, 1, 2, 2}, {2, 2, 3, 2}};
+    static const kiwimound_ration faulty[] = {{1, 1, 2, 2}, {2, 3, 2, 1}};
+    static const kiwimound_ration many[65];
+    guard();
+    kiwimound_planned p = kiwimound_plan_rations(4, 2, 2, four_slots, 3, listing, sizeof listing);
+    EXPECT(p.number == 0 && p.line == 0 && is_listing(p, FOUR_SLOTS_PLAN));
+    guard();
+    p = kiwimound_plan_rations_both(4, 2, 2, four_slots, 3, listing, sizeof listing, placing, sizeof placing);
+    EXPECT(p.number == 0 && p.line == 0 && is_listing(p, FOUR_SLOTS_PLAN) && is_four_slots_placing());
+    guard();
+    p = kiwimound_plan_rations(3, 1, 1, held, 2, listing, sizeof listing);
+    EXPECT(p.number == KIWIMOUND_HELD && p.line == 0 && is_listing(p, HELD_LISTING));
+    guard();
+    p = kiwimound_plan_rations(3, 1, 1, faulty, 2, listing, sizeof listing);
+    EXPECT(p.number == KIWIMOUND_BAD_WINDOW && p.line == 3 && p.length == 0);
+    p = kiwimound_plan_rations(3, 1, 1, many, 65, listing, sizeof listing);
+    EXPECT(p.number == KIWIMOUND_BAD_RATIONS && p.line == 1 && p.length == 0);
+    p = kiwimound_plan_rations(4, 2, 2, four_slots, 3, listing, KIWIMOUND_LISTING_BYTES - 1);
+    EXPECT(p.number == KIWIMOUND_SHORT_BUFFER && p.line == 0 && p.length == 0);
+    kiwimound_written w = kiwimound_write_rations(4, 2, 2, four_slots, 3, listing, KIWIMOUND_SHEET_BYTES(3) - 1);
+    EXPECT(w.number == KIWIMOUND_SHORT_BUFFER && w.line == 0 && w.length == 0 && kept(listing, sizeof listing, 0));
+    w = kiwimound_write_rations(4, 2, 2, four_slots, 3, listing, sizeof listing);
+    EXPECT(w.number == 0 && w.line == 0 && w.length == sizeof FOUR_SLOTS - 1 && memcmp(listing, FOUR_SLOTS, w.length) == 0);
+    EXPECT(kept(listing, sizeof listing, w.length));
+    static const uint8_t all[] = {1, 1, 1};
+    kiwimound_shortfall_answer s = kiwimound_shortfall_rations(3, 1, 1, held, 2, all, 3);
+    EXPECT(s.number == 0 && s.line == 0 && s.shortfall == 1);
+    static const kiwimound_ration late[] = {{1, 1, 3, 1}};
+    static const uint32_t lows[] = {1, 1, 0}, none[] = {0, 0, 0}, highs[] = {1, 1, 1};
+    kiwimound_bounds_answer b = kiwimound_bounds_rations(3, 1, 1, late, 1, lows, 3, highs, 3);
+    EXPECT(b.number == 0 && b.line == 0 && !b.yes);
+    b = kiwimound_bounds_rations(3, 1, 1, late, 1, none, 3, highs, 3);
+    EXPECT(b.number == 0 && b.line == 0 && b.yes);
+}
+
+int main(void)
+{
+    test_read();
+    test_write();
+    test_find();
+    test_shortfall();
+    test_bounds();
+    test_planned();
+    test_held();
+    test_refused();
+    test_answer();
+    test_compare();
+    test_records();
+    printf(failures == 0 ? "tests.c: ok\n" : "tests.c: FAILED\n");
+    return failures != 0;
+}

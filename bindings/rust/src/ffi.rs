@@ -1,0 +1,214 @@
+//! The library's calls, as include/kiwimound.h declares them, each behind a safe function: a slice's pointer and length are valid as lent, and `&mut`
+//! overlaps nothing. No other module is unsafe.
+#![allow(unsafe_code)]
+
+/// The least length of a plan buffer.
+const LISTING_BYTES: usize = 32_282;
+/// The least length of a placing buffer.
+const PLACING_BYTES: usize = 6_144;
+/// Bytes of a line of a sheet or of a listing.
+pub const LINE_BYTES: usize = 21;
+/// The most slots of a day.
+pub const MAX_SLOTS: usize = 96;
+/// The most rations of a sheet.
+pub const MAX_RATIONS: usize = 64;
+
+#[repr(C)]
+pub struct Reading {
+    pub number: u32,
+    pub line: u32,
+    pub slots: u32,
+    pub blowers: u32,
+    pub wake: u32,
+    pub rations: u32,
+    pub numbers: [u32; 4 * MAX_RATIONS],
+}
+
+#[repr(C)]
+pub struct Written {
+    pub number: u32,
+    pub line: u32,
+    pub length: usize,
+}
+
+#[repr(C)]
+pub struct Part {
+    pub start: usize,
+    pub length: usize,
+}
+
+#[repr(C)]
+pub struct Planned {
+    pub number: u32,
+    pub line: u32,
+    pub length: usize,
+}
+
+#[repr(C)]
+pub struct Compared {
+    pub number: u32,
+    pub line: u32,
+    pub same: bool,
+}
+
+#[repr(C)]
+pub struct ShortfallAnswer {
+    pub number: u32,
+    pub line: u32,
+    pub shortfall: i32,
+}
+
+#[repr(C)]
+pub struct BoundsAnswer {
+    pub number: u32,
+    pub line: u32,
+    pub yes: bool,
+}
+
+mod calls {
+    use super::{BoundsAnswer, Compared, Part, Planned, Reading, ShortfallAnswer, Written};
+
+    extern "C" {
+        pub fn kiwimound_read(sheet: *const u8, length: usize) -> Reading;
+        pub fn kiwimound_write(
+            slots: u32,
+            blowers: u32,
+            wake: u32,
+            rations: u32,
+            numbers: *const u32,
+            numbers_length: usize,
+            out: *mut u8,
+            out_length: usize,
+        ) -> Written;
+        pub fn kiwimound_find(sheet: *const u8, length: usize, tank: u32) -> Part;
+        pub fn kiwimound_shortfall(
+            sheet: *const u8,
+            length: usize,
+            marks: *const u8,
+            marks_length: usize,
+        ) -> ShortfallAnswer;
+        pub fn kiwimound_bounds(
+            sheet: *const u8,
+            length: usize,
+            lows: *const u32,
+            lows_length: usize,
+            highs: *const u32,
+            highs_length: usize,
+        ) -> BoundsAnswer;
+        pub fn kiwimound_plan_both(
+            sheet: *const u8,
+            length: usize,
+            listing: *mut u8,
+            listing_length: usize,
+            placing: *mut u8,
+            placing_length: usize,
+        ) -> Planned;
+        pub fn kiwimound_plan_number(sheet: *const u8, length: usize) -> Planned;
+        pub fn kiwimound_answer(
+            sheet: *const u8,
+            length: usize,
+            out: *mut u8,
+            out_length: usize,
+        ) -> Planned;
+        pub fn kiwimound_compare(
+            first: *const u8,
+            first_length: usize,
+            second: *const u8,
+            second_length: usize,
+        ) -> Compared;
+    }
+}
+
+pub fn read(sheet: &[u8]) -> Reading {
+    unsafe { calls::kiwimound_read(sheet.as_ptr(), sheet.len()) }
+}
+
+pub fn write(
+    slots: u32,
+    blowers: u32,
+    wake: u32,
+    rations: u32,
+    numbers: &[u32],
+    out: &mut [u8],
+) -> Written {
+    unsafe {
+        calls::kiwimound_write(
+            slots,
+            blowers,
+            wake,
+            rations,
+            numbers.as_ptr(),
+            numbers.len(),
+            out.as_mut_ptr(),
+            out.len(),
+        )
+    }
+}
+
+pub fn find(sheet: &[u8], tank: u32) -> Part {
+    unsafe { calls::kiwimound_find(sheet.as_ptr(), sheet.len(), tank) }
+}
+
+pub fn shortfall(sheet: &[u8], marks: &[u8]) -> ShortfallAnswer {
+    unsafe { calls::kiwimound_shortfall(sheet.as_ptr(), sheet.len(), marks.as_ptr(), marks.len()) }
+}
+
+pub fn bounds(sheet: &[u8], lows: &[u32], highs: &[u32]) -> BoundsAnswer {
+    unsafe {
+        calls::kiwimound_bounds(
+            sheet.as_ptr(),
+            sheet.len(),
+            lows.as_ptr(),
+            lows.len(),
+            highs.as_ptr(),
+            highs.len(),
+        )
+    }
+}
+
+/// What planning gives: its number, the listing's bytes, and those of the placing.
+pub struct Day {
+    pub number: u32,
+    pub listing: Vec<u8>,
+    pub placing: Vec<u8>,
+}
+
+/// Plans a sheet into buffers of their full size, so that none is too short.
+pub fn plan(sheet: &[u8]) -> Day {
+    let mut listing = vec![0; LISTING_BYTES];
+    let mut placing = vec![0; PLACING_BYTES];
+    let planned = unsafe {
+        calls::kiwimound_plan_both(
+            sheet.as_ptr(),
+            sheet.len(),
+            listing.as_mut_ptr(),
+            listing.len(),
+            placing.as_mut_ptr(),
+            placing.len(),
+        )
+    };
+    listing.truncate(planned.length);
+    Day {
+        number: planned.number,
+        listing,
+        placing,
+    }
+}
+
+pub fn plan_number(sheet: &[u8]) -> Planned {
+    unsafe { calls::kiwimound_plan_number(sheet.as_ptr(), sheet.len()) }
+}
+
+/// What the program writes for these bytes.
+pub fn answer(sheet: &[u8]) -> Vec<u8> {
+    let mut out = vec![0; LISTING_BYTES];
+    let planned = unsafe {
+        calls::kiwimound_answer(sheet.as_ptr(), sheet.len(), out.as_mut_ptr(), out.len())
+    };
+    out.truncate(planned.length);
+    out
+}
+
+pub fn compare(first: &[u8], second: &[u8]) -> Compared {
+    unsafe { calls::kiwimound_compare(first.as_ptr(), first.len(), second.as_ptr(), second.len()) }
+}

@@ -1,0 +1,41 @@
+//! Plans the feed day of a trout farm: which blowers run in which quarter-hour, and what they feed.
+//!
+//! The planning is done by `libkiwimound.a`, whose every function is proved against a written definition. This crate adds types that leave little to
+//! get wrong: a [`Sheet`] is bytes that were accepted, so that each question about one has an answer; buffers have their full size; the listing comes
+//! back as numbers.
+//!
+//! ```
+//! use kiwimound::{Sheet, State};
+//!
+//! let sheet = Sheet::read(
+//!     "    4    2    2    3\n    1    1    2    2\n    2    1    4    2\n    3    2    3    1\n",
+//! )?;
+//! let plan = sheet.plan()?;
+//! assert_eq!(plan.energy(), 10);
+//! let off = plan.stretches().iter().find(|s| s.state == State::Off).unwrap();
+//! assert_eq!((off.blower, off.first, off.last), (2, 1, 2));
+//! # Ok::<(), Box<dyn std::error::Error>>(())
+//! ```
+//!
+//! The library keeps no state: all types here are [`Send`] and [`Sync`], and any number of threads may plan at once.
+#![deny(missing_docs)]
+#![deny(unsafe_code)]
+
+mod ffi;
+mod listing;
+mod plan;
+mod refusal;
+mod sheet;
+
+pub use plan::{Feeding, Held, Plan, State, Stretch};
+pub use refusal::{Fault, Refusal};
+pub use sheet::{Bounds, Comparison, Head, Ration, Sheet};
+
+/// What the program writes for any bytes: the listing of a plan or of a held sheet, or the line of any other refusal.
+///
+/// ```
+/// assert_eq!(kiwimound::output(b""), b"HELD\n    1    0    0    0\n");
+/// ```
+pub fn output(bytes: &[u8]) -> Vec<u8> {
+    ffi::answer(bytes)
+}

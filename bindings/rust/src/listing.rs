@@ -1,0 +1,19 @@
+//! The lines of a listing as numbers.
+use crate::ffi::LINE_BYTES;
+
+const OPENING_BYTES: usize = 5;
+const WIDTH: usize = 5;
+
+/// The four numbers of each line after the opening word. The bytes are the library's, which writes fields in their stated form alone.
+pub fn lines(listing: &[u8]) -> impl Iterator<Item = [u32; 4]> + '_ {
+    listing[OPENING_BYTES..]
+        .chunks_exact(LINE_BYTES)
+        .map(|line| [0, 1, 2, 3].map(|f| number(&line[WIDTH * f..WIDTH * (f + 1)])))
+}
+
+fn number(field: &[u8]) -> u32 {
+    field
+        .iter()
+        .filter(|&&c| c != b' ')
+        .fold(0, |n, &c| 10 * n + u32::from(c - b'0'))
+}

@@ -1,0 +1,167 @@
+//! What planning gives: a plan, or the slots that show why there is none.
+use crate::ffi;
+use crate::listing;
+use std::error::Error;
+use std::fmt;
+
+/// What a blower does during a stretch.
+#[derive(Clone, Copy, Debug, PartialEq, Eq, Hash)]
+pub enum State {
+    /// Idle for at least the wake cost, and switched off.
+    Off,
+    /// Idle, and kept on because a start would cost more.
+    IdleOn,
+    /// Feeding.
+    Busy,
+}
+
+/// A longest run of slots in which a blower does the same.
+#[derive(Clone, Copy, Debug, PartialEq, Eq, Hash)]
+pub struct Stretch {
+    /// The blower, from 1.
+    pub blower: u32,
+    /// The first slot, from 1.
+    pub first: u32,
+    /// The last slot.
+    pub last: u32,
+    /// What the blower does.
+    pub state: State,
+}
+
+/// One feeding of one ration.
+#[derive(Clone, Copy, Debug, PartialEq, Eq, Hash)]
+pub struct Feeding {
+    /// The slot, from 1.
+    pub slot: u32,
+    /// The blower that feeds, from 1.
+    pub blower: u32,
+    /// The tank that is fed.
+    pub tank: u32,
+    /// 1 for the ration's first feeding, then 2, ..
+    pub part: u32,
+}
+
+/// The plan of a day.
+#[derive(Clone, Debug, PartialEq, Eq)]
+pub struct Plan {
+    energy: u32,
+    starts: u32,
+    stretches: Vec<Stretch>,
+    feedings: Vec<Feeding>,
+    listing: Vec<u8>,
+    placing: Vec<u8>,
+}
+
+impl Plan {
+    pub(crate) fn new(listing: Vec<u8>, placing: Vec<u8>) -> Plan {
+        let mut lines = listing::lines(&listing);
+        let [energy, starts, stretches, _] = lines.next().expect("a plan has its first line");
+        let stretches = lines
+            .by_ref()
+            .take(stretches as usize)
+            .map(|[blower, first, last, state]| Stretch {
+                blower,
+                first,
+                last,
+                state: match state {
+                    0 => State::Off,
+                    1 => State::IdleOn,
+                    2 => State::Busy,
+                    _ => unreachable!("state {state} in a listing"),
+                },
+            })
+            .collect();
+        let feedings = lines
+            .map(|[slot, blower, tank, part]| Feeding {
+                slot,
+                blower,
+                tank,
+                part,
+            })
+            .collect();
+        Plan {
+            energy,
+            starts,
+            stretches,
+            feedings,
+            listing,
+            placing,
+        }
+    }
+
+    /// The slots in which blowers are on, and the wake cost for each start.
+    pub fn energy(&self) -> u32 {
+        self.energy
+    }
+
+    /// How often a blower is switched on.
+    pub fn starts(&self) -> u32 {
+        self.starts
+    }
+
+    /// Every stretch of every blower, by blower, then slot.
+    pub fn stretches(&self) -> &[Stretch] {
+        &self.stretches
+    }
+
+    /// Every feeding, by slot, then blower.
+    pub fn feedings(&self) -> &[Feeding] {
+        &self.feedings
+    }
+
+    /// Whether a ration, counted from 0 in sheet order, is fed in a slot, counted from 1; false for a ration or a slot that the day does not have.
+    pub fn is_fed(&self, ration: usize, slot: u32) -> bool {
+        let slot = slot as usize;
+        ration < ffi::MAX_RATIONS
+            && (1..=ffi::MAX_SLOTS).contains(&slot)
+            && self.placing[ration * ffi::MAX_SLOTS + slot - 1] == 1
+    }
+
+    /// How many feedings a slot holds.
+    pub fn count(&self, slot: u32) -> usize {
+        self.feedings.iter().filter(|f| f.slot == slot).count()
+    }
+
+    /// The listing's bytes, as the program `planner` writes them.
+    pub fn listing(&self) -> &[u8] {
+        &self.listing
+    }
+}
+
+/// A sheet held for want of blowers: the least set of slots that shows it.
+#[derive(Clone, Debug, PartialEq, Eq)]
+pub struct Held {
+    /// The slots, rising: those contained in every set of slots with the greatest shortfall.
+    pub slots: Vec<u32>,
+    /// The feedings that are forced into them.
+    pub forced: u32,
+    /// The feedings that the blowers can make in them, fewer than are forced.
+    pub capacity: u32,
+}
+
+impl Held {
+    pub(crate) fn new(listing: &[u8]) -> Held {
+        let mut lines = listing::lines(listing);
+        let [_, _, forced, capacity] = lines
+            .next()
+            .expect("a held sheet's listing has its line of counts");
+        Held {
+            slots: lines.map(|[slot, ..]| slot).collect(),
+            forced,
+            capacity,
+        }
+    }
+}
+
+impl fmt::Display for Held {
+    fn fmt(&self, f: &mut fmt::Formatter<'_>) -> fmt::Result {
+        write!(
+            f,
+            "held: forced {}, capacity {}, slots",
+            self.forced, self.capacity
+        )?;
+        self.slots.iter().try_for_each(|slot| write!(f, " {slot}"))
+    }
+}
+
+impl Error for Held {}

@@ -1,0 +1,192 @@
+//! Feed sheets, and the questions about one.
+use crate::ffi;
+use crate::plan::{Held, Plan};
+use crate::refusal::{Fault, Refusal};
+
+/// The numbers of a sheet's head line but the number of rations.
+#[derive(Clone, Copy, Debug, PartialEq, Eq, Hash)]
+pub struct Head {
+    /// Slots of the day, 1 to 96.
+    pub slots: u32,
+    /// Blowers, 1 to 8.
+    pub blowers: u32,
+    /// What a start costs, 0 to 200.
+    pub wake: u32,
+}
+
+/// What one tank is to be fed.
+#[derive(Clone, Copy, Debug, PartialEq, Eq, Hash)]
+pub struct Ration {
+    /// The tank, 1 to 999.
+    pub tank: u32,
+    /// The first slot of its window.
+    pub first: u32,
+    /// The last slot of its window.
+    pub last: u32,
+    /// In how many of these slots it is fed.
+    pub volume: u32,
+}
+
+/// How many feedings a slot is to hold, at least and at most.
+#[derive(Clone, Copy, Debug, PartialEq, Eq, Hash)]
+pub struct Bounds {
+    /// At least.
+    pub low: u32,
+    /// At most; above the blowers it means the blowers.
+    pub high: u32,
+}
+
+/// What a comparison of two sheets finds.
+#[derive(Clone, Copy, Debug, PartialEq, Eq, Hash)]
+pub enum Comparison {
+    /// As many slots, and as many feedings in each.
+    Same,
+    /// Two plans that differ in this.
+    Different,
+    /// One of the two has no plan.
+    Held,
+}
+
+/// A feed sheet that was accepted: its bytes pass the checks 1 to 9.
+#[derive(Clone, Debug, PartialEq, Eq)]
+pub struct Sheet {
+    bytes: Vec<u8>,
+    head: Head,
+    rations: Vec<Ration>,
+}
+
+impl Sheet {
+    /// Takes the bytes of a sheet.
+    ///
+    /// # Errors
+    ///
+    /// The first fault of the bytes, and its line.
+    pub fn read(bytes: impl Into<Vec<u8>>) -> Result<Sheet, Refusal> {
+        let bytes = bytes.into();
+        let reading = ffi::read(&bytes);
+        if let Some(fault) = Fault::from_number(reading.number) {
+            return Err(Refusal {
+                fault,
+                line: reading.line,
+            });
+        }
+        let rations = reading.numbers[..4 * reading.rations as usize]
+            .chunks_exact(4)
+            .map(|n| Ration {
+                tank: n[0],
+                first: n[1],
+                last: n[2],
+                volume: n[3],
+            })
+            .collect();
+        Ok(Sheet {
+            bytes,
+            head: Head {
+                slots: reading.slots,
+                blowers: reading.blowers,
+                wake: reading.wake,
+            },
+            rations,
+        })
+    }
+
+    /// Makes a sheet of its numbers.
+    ///
+    /// # Errors
+    ///
+    /// The first fault of the numbers, and the line that the ration would have had.
+    pub fn write(head: Head, rations: &[Ration]) -> Result<Sheet, Refusal> {
+        let numbers: Vec<u32> = rations
+            .iter()
+            .flat_map(|r| [r.tank, r.first, r.last, r.volume])
+            .collect();
+        let mut bytes = vec![0; ffi::LINE_BYTES * (rations.len() + 1)];
+        // a count that 32 bits can't hold is refused as any count above 64 is
+        let count = u32::try_from(rations.len()).unwrap_or(u32::MAX);
+        let written = ffi::write(
+            head.slots,
+            head.blowers,
+            head.wake,
+            count,
+            &numbers,
+            &mut bytes,
+        );
+        if let Some(fault) = Fault::from_number(written.number) {
+            return Err(Refusal {
+                fault,
+                line: written.line,
+            });
+        }
+        Ok(Sheet {
+            bytes,
+            head,
+            rations: rations.to_vec(),
+        })
+    }
+
+    /// The sheet's bytes.
+    pub fn bytes(&self) -> &[u8] {
+        &self.bytes
+    }
+
+    /// The numbers of the head line.
+    pub fn head(&self) -> Head {
+        self.head
+    }
+
+    /// The rations, in sheet order.
+    pub fn rations(&self) -> &[Ration] {
+        &self.rations
+    }
+
+    /// The line of a tank, its closing byte 10 included, as a part of [`Sheet::bytes`].
+    pub fn find(&self, tank: u32) -> Option<&[u8]> {
+        let part = ffi::find(&self.bytes, tank);
+        (part.length != 0).then(|| &self.bytes[part.start..part.start + part.length])
+    }
+
+    /// Plans the day.
+    ///
+    /// # Errors
+    ///
+    /// The sheet is held for want of blowers: some slots have more feedings forced into them than the blowers can make there.
+    pub fn plan(&self) -> Result<Plan, Held> {
+        let day = ffi::plan(&self.bytes);
+        match day.number {
+            0 => Ok(Plan::new(day.listing, day.placing)),
+            12 => Err(Held::new(&day.listing)),
+            number => unreachable!("number {number} for an accepted sheet"),
+        }
+    }
+
+    /// Whether the day can be planned.
+    pub fn can_be_planned(&self) -> bool {
+        ffi::plan_number(&self.bytes).number == 0
+    }
+
+    /// The shortfall of the slots that pass a test, which is asked of each slot of the day from 1 on: the feedings that are forced into them, less those
+    /// that the blowers can make there. Below zero is spare capacity.
+    pub fn shortfall(&self, is_in: impl FnMut(u32) -> bool) -> i32 {
+        let marks: Vec<u8> = (1..=self.head.slots).map(is_in).map(u8::from).collect();
+        ffi::shortfall(&self.bytes, &marks).shortfall
+    }
+
+    /// Whether the rations can be fed under bounds, which are asked for each slot of the day from 1 on.
+    pub fn fits(&self, bounds: impl FnMut(u32) -> Bounds) -> bool {
+        let (lows, highs): (Vec<u32>, Vec<u32>) = (1..=self.head.slots)
+            .map(bounds)
+            .map(|b| (b.low, b.high))
+            .unzip();
+        ffi::bounds(&self.bytes, &lows, &highs).yes
+    }
+
+    /// Plans this sheet and another, and compares the days.
+    pub fn compare(&self, other: &Sheet) -> Comparison {
+        let compared = ffi::compare(&self.bytes, &other.bytes);
+        match (compared.number, compared.same) {
+            (0, true) => Comparison::Same,
+            (0, false) => Comparison::Different,
+            _ => Comparison::Held,
+        }
+    }
+}

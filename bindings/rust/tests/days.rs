@@ -1,0 +1,275 @@
+//! The days of document 01 ("Days at the edge") through the safe interface.
+use kiwimound::{Bounds, Comparison, Fault, Feeding, Head, Held, Ration, Refusal, Sheet, State};
+
+/// A sheet from its head numbers and its rations, by the library's writer.
+fn sheet(slots: u32, blowers: u32, wake: u32, rations: &[[u32; 4]]) -> Sheet {
+    let rations: Vec<Ration> = rations
+        .iter()
+        .map(|&[tank, first, last, volume]| Ration {
+            tank,
+            first,
+            last,
+            volume,
+        })
+        .collect();
+    Sheet::write(
+        Head {
+            slots,
+            blowers,
+            wake,
+        },
+        &rations,
+    )
+    .expect("a day of document 01 is well-formed")
+}
+
+fn four_slots() -> Sheet {
+    sheet(4, 2, 2, &[[1, 1, 2, 2], [2, 1, 4, 2], [3, 2, 3, 1]])
+}
+
+fn held() -> Sheet {
+    sheet(3, 1, 1, &[[1, 1, 2, 2], [2, 2, 3, 2]])
+}
+
+fn one_feeding() -> Sheet {
+    sheet(3, 1, 1, &[[1, 1, 3, 1]])
+}
+
+fn stretches(sheet: &Sheet) -> Vec<(u32, u32, u32, State)> {
+    sheet
+        .plan()
+        .unwrap()
+        .stretches()
+        .iter()
+        .map(|s| (s.blower, s.first, s.last, s.state))
+        .collect()
+}
+
+#[test]
+fn written_and_read() {
+    let text =
+        "    4    2    2    3\n    1    1    2    2\n    2    1    4    2\n    3    2    3    1\n";
+    let written = four_slots();
+    assert_eq!(written.bytes(), text.as_bytes());
+    assert_eq!(Sheet::read(text), Ok(written.clone()));
+    assert_eq!(
+        written.head(),
+        Head {
+            slots: 4,
+            blowers: 2,
+            wake: 2
+        }
+    );
+    assert_eq!(
+        written.rations()[1],
+        Ration {
+            tank: 2,
+            first: 1,
+            last: 4,
+            volume: 2
+        }
+    );
+}
+
+#[test]
+fn found_by_tank() {
+    let day = four_slots();
+    let line = day.find(2).unwrap();
+    assert_eq!(line, b"    2    1    4    2\n");
+    assert_eq!(line.as_ptr(), day.bytes()[42..].as_ptr());
+    assert_eq!(day.find(9), None);
+    assert!(held().find(1).is_some());
+}
+
+#[test]
+fn first_listing() {
+    let plan = four_slots().plan().unwrap();
+    assert_eq!((plan.energy(), plan.starts()), (10, 2));
+    assert_eq!(
+        stretches(&four_slots()),
+        [
+            (1, 1, 4, State::Busy),
+            (2, 1, 2, State::Off),
+            (2, 3, 3, State::Busy),
+            (2, 4, 4, State::IdleOn)
+        ]
+    );
+    let feedings: Vec<[u32; 4]> = plan
+        .feedings()
+        .iter()
+        .map(
+            |&Feeding {
+                 slot,
+                 blower,
+                 tank,
+                 part,
+             }| [slot, blower, tank, part],
+        )
+        .collect();
+    assert_eq!(
+        feedings,
+        [
+            [1, 1, 1, 1],
+            [2, 1, 1, 2],
+            [3, 1, 2, 1],
+            [3, 2, 3, 1],
+            [4, 1, 2, 2]
+        ]
+    );
+    assert_eq!([1, 2, 3, 4].map(|t| plan.count(t)), [1, 1, 2, 1]);
+    for (ration, fed) in [[1, 1, 0, 0], [0, 0, 1, 1], [0, 0, 1, 0]]
+        .iter()
+        .enumerate()
+    {
+        for slot in 0..=97 {
+            let expected = (1..=4).contains(&slot) && fed[slot as usize - 1] == 1;
+            assert_eq!(
+                plan.is_fed(ration, slot),
+                expected,
+                "ration {ration}, slot {slot}"
+            );
+        }
+    }
+    assert!(!plan.is_fed(3, 1) && !plan.is_fed(64, 1) && !plan.is_fed(usize::MAX, u32::MAX));
+    assert!(plan.listing().starts_with(b"PLAN\n   10    2    4    5\n"));
+    assert_eq!(plan.listing().len(), 5 + 21 * (1 + 4 + 5));
+}
+
+#[test]
+fn held_for_want_of_blowers() {
+    let expected = Held {
+        slots: vec![2],
+        forced: 2,
+        capacity: 1,
+    };
+    assert_eq!(held().plan(), Err(expected.clone()));
+    assert_eq!(expected.to_string(), "held: forced 2, capacity 1, slots 2");
+    assert!(!held().can_be_planned() && four_slots().can_be_planned());
+}
+
+#[test]
+fn shortfalls() {
+    assert_eq!(held().shortfall(|t| t == 1), 0);
+    assert_eq!(held().shortfall(|_| true), 1);
+    assert_eq!(four_slots().shortfall(|t| t == 4), -2);
+}
+
+#[test]
+fn nearest_deadline_fails_here() {
+    let plan = sheet(3, 2, 1, &[[1, 1, 2, 1], [2, 1, 2, 1], [3, 1, 3, 3]])
+        .plan()
+        .unwrap();
+    assert_eq!(plan.energy(), 7);
+    let fed: Vec<(u32, u32)> = plan.feedings().iter().map(|f| (f.slot, f.tank)).collect();
+    assert_eq!(fed, [(1, 1), (1, 3), (2, 2), (2, 3), (3, 3)]);
+}
+
+#[test]
+fn energies() {
+    let empty_on = sheet(3, 1, 4, &[]);
+    assert_eq!(
+        (
+            empty_on.plan().unwrap().energy(),
+            empty_on.plan().unwrap().starts()
+        ),
+        (7, 1)
+    );
+    assert_eq!(stretches(&empty_on), [(1, 1, 3, State::IdleOn)]);
+    let empty_off = sheet(3, 1, 3, &[]);
+    assert_eq!(empty_off.plan().unwrap().energy(), 0);
+    assert_eq!(stretches(&empty_off), [(1, 1, 3, State::Off)]);
+    assert_eq!(
+        sheet(1, 1, 200, &[[1, 1, 1, 1]]).plan().unwrap().energy(),
+        201
+    );
+    assert_eq!(one_feeding().plan().unwrap().energy(), 2);
+    assert_eq!(
+        stretches(&one_feeding()),
+        [(1, 1, 2, State::Off), (1, 3, 3, State::Busy)]
+    );
+    let ends = [[1, 1, 1, 1], [2, 3, 3, 1]];
+    assert_eq!(sheet(3, 1, 2, &ends).plan().unwrap().energy(), 5);
+    assert_eq!(sheet(3, 1, 1, &ends).plan().unwrap().energy(), 4);
+}
+
+#[test]
+fn under_bounds() {
+    let day = one_feeding();
+    let with = |lows: [u32; 3], highs: [u32; 3]| {
+        day.fits(|t| Bounds {
+            low: lows[t as usize - 1],
+            high: highs[t as usize - 1],
+        })
+    };
+    assert!(with([0, 0, 0], [1, 1, 1]));
+    assert!(with([0, 0, 1], [9, 9, u32::MAX]));
+    assert!(!with([1, 1, 0], [1, 1, 1]));
+    assert!(!with([0, 1, 0], [0, 0, 1]));
+    assert!(!held().fits(|_| Bounds { low: 0, high: 8 }));
+}
+
+#[test]
+fn compared() {
+    let last_slot = sheet(3, 1, 200, &[[7, 3, 3, 1]]);
+    assert_eq!(one_feeding().compare(&last_slot), Comparison::Same);
+    assert_eq!(one_feeding().compare(&four_slots()), Comparison::Different);
+    assert_eq!(one_feeding().compare(&held()), Comparison::Held);
+    assert_eq!(held().compare(&one_feeding()), Comparison::Held);
+}
+
+#[test]
+fn refused() {
+    let read = |text: &str| Sheet::read(text).unwrap_err();
+    let refusal = |fault, line| Refusal { fault, line };
+    assert_eq!(read(""), refusal(Fault::Length, 0));
+    assert_eq!(read("    3    1    1    0 "), refusal(Fault::Field, 1));
+    assert_eq!(read("   97    1    1    0\n"), refusal(Fault::Slots, 1));
+    assert_eq!(read("    3    9    1    0\n"), refusal(Fault::Blowers, 1));
+    assert_eq!(read("    3    1  201    0\n"), refusal(Fault::Wake, 1));
+    assert_eq!(read("    3    1    1    1\n"), refusal(Fault::Rations, 1));
+    assert_eq!(
+        read("    3    1    1    1\n    0    1    3    1\n"),
+        refusal(Fault::Tank, 2)
+    );
+    assert_eq!(
+        read("    3    1    1    1\n    1    1    4    1\n"),
+        refusal(Fault::Window, 2)
+    );
+    assert_eq!(
+        read("    3    1    1    1\n    1    1    3    4\n"),
+        refusal(Fault::Volume, 2)
+    );
+    assert_eq!(
+        read("    3    1    1    1\n    1    1    4    1\n").to_string(),
+        "refused, number 8, line 2: the window breaks 1 ≤ first ≤ last ≤ slots"
+    );
+    let head = Head {
+        slots: 3,
+        blowers: 1,
+        wake: 1,
+    };
+    let ration = Ration {
+        tank: 1,
+        first: 1,
+        last: 3,
+        volume: 0,
+    };
+    assert_eq!(
+        Sheet::write(head, &[ration]),
+        Err(refusal(Fault::Volume, 2))
+    );
+    assert_eq!(
+        Sheet::write(head, &[ration; 65]),
+        Err(refusal(Fault::Rations, 1))
+    );
+}
+
+#[test]
+fn threads_share_a_sheet() {
+    let day = four_slots();
+    let plans: Vec<_> = std::thread::scope(|s| {
+        let runs: Vec<_> = (0..4).map(|_| s.spawn(|| day.plan().unwrap())).collect();
+        runs.into_iter().map(|r| r.join().unwrap()).collect()
+    });
+    assert!(plans.iter().all(|p| *p == day.plan().unwrap()));
+}

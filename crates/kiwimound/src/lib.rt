@@ -1,0 +1,14 @@
+// The calls for outsiders under their C names, for a program in C or Rust to link (`rt staticlib kiwimound`; include/kiwimound.h).
+//
+// Each forwards to the call of its layer, asks nothing of its caller and carries the same promise. A slice is a pointer and then a length.
+mod comparing;
+mod placings;
+mod plans;
+mod sheets;
+
+// A part of the caller's slice: where it begins, and its length.
+#[repr(C)]
+pub struct Part {
+    pub start: usize,
+    pub length: usize,
+}

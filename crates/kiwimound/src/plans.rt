@@ -1,0 +1,51 @@
+// The planning calls of `listing`.
+use listing::Planned;
+ghost use mathlib.Core.Path.{_≡_};
+ghost use mathlib.Core.Bool.{false, _||_};
+ghost use Rattle.sheet.specs.Sheet.{sheetOf};
+ghost use Rattle.listing.specs.Planning.{planRefusal, shortPlan, shortGrid, listedAnswer, unlistedAnswer, listingAfter, gridAfter, outputAnswer, outputAfter};
+
+// Plans a sheet, with a plan buffer lent.
+#[no_mangle]
+pub extern "C" fn kiwimound_plan(b: &[u8], listing: &mut [u8]) -> Planned
+    ensures { λ r. ⌜ r ≡ listedAnswer (planRefusal (now (b .entry)) (shortPlan (now (listing .entry)))) (sheetOf (now (b .entry))) ⌝ }
+    ensures { λ _. ⌜ now (listing .exit) ≡ listingAfter (planRefusal (now (b .entry)) (shortPlan (now (listing .entry)))) (sheetOf (now (b .entry))) (now (listing .entry)) ⌝ }
+{
+    listing::plan(b, listing)
+}
+
+// Plans a sheet, with a placing buffer lent.
+#[no_mangle]
+pub extern "C" fn kiwimound_plan_placing(b: &[u8], placing: &mut [u8]) -> Planned
+    ensures { λ r. ⌜ r ≡ unlistedAnswer (planRefusal (now (b .entry)) (shortGrid (now (placing .entry)))) ⌝ }
+    ensures { λ _. ⌜ now (placing .exit) ≡ gridAfter (planRefusal (now (b .entry)) (shortGrid (now (placing .entry)))) (sheetOf (now (b .entry))) (now (placing .entry)) ⌝ }
+{
+    listing::plan_placing(b, placing)
+}
+
+// Plans a sheet, with both buffers lent.
+#[no_mangle]
+pub extern "C" fn kiwimound_plan_both(b: &[u8], listing: &mut [u8], placing: &mut [u8]) -> Planned
+    ensures { λ r. ⌜ r ≡ listedAnswer (planRefusal (now (b .entry)) (shortPlan (now (listing .entry)) || shortGrid (now (placing .entry)))) (sheetOf (now (b .entry))) ⌝ }
+    ensures { λ _. ⌜ now (listing .exit) ≡ listingAfter (planRefusal (now (b .entry)) (shortPlan (now (listing .entry)) || shortGrid (now (placing .entry)))) (sheetOf (now (b .entry))) (now (listing .entry)) ⌝ }
+    ensures { λ _. ⌜ now (placing .exit) ≡ gridAfter (planRefusal (now (b .entry)) (shortPlan (now (listing .entry)) || shortGrid (now (placing .entry)))) (sheetOf (now (b .entry))) (now (placing .entry)) ⌝ }
+{
+    listing::plan_both(b, listing, placing)
+}
+
+// Plans a sheet with no buffer lent.
+#[no_mangle]
+pub extern "C" fn kiwimound_plan_number(b: &[u8]) -> Planned
+    ensures { λ r. ⌜ r ≡ unlistedAnswer (planRefusal (now (b .entry)) false) ⌝ }
+{
+    listing::plan_number(b)
+}
+
+// Writes what the program writes for a sheet: a listing, or the line of any other refusal.
+#[no_mangle]
+pub extern "C" fn kiwimound_answer(b: &[u8], out: &mut [u8]) -> Planned
+    ensures { λ r. ⌜ r ≡ outputAnswer (now (b .entry)) (shortPlan (now (out .entry))) ⌝ }
+    ensures { λ _. ⌜ now (out .exit) ≡ outputAfter (now (b .entry)) (shortPlan (now (out .entry))) (now (out .entry)) ⌝ }
+{
+    listing::answer(b, out)
+}
