@@ -1,0 +1,55 @@
+//! Times of the calls of the static library, beside the same engine in plain Rust, the
+//! reference implementation and a max-flow library, on the same sheets and in one run.
+//! Tables are in Markdown.
+
+mod engines;
+mod growth;
+mod lemon;
+mod planning;
+mod plot;
+mod questions;
+mod stats;
+
+use std::path::PathBuf;
+use std::process::ExitCode;
+
+const USAGE: &str = "usage: benchmark planning SHEETS SLOW-SHEETS [LEMON-PROGRAM]
+       benchmark questions SHEETS SLOW-SHEETS
+       benchmark growth SHEETS PLOT
+       benchmark once library|plain KIND SHEETS
+SLOW-SHEETS is how many of the sheets the slower implementations get. PLOT is the file that the
+plot is written to. `once` plans each sheet once, for instructions to be counted.";
+
+fn answer(words: &[&str]) -> Option<Result<(), String>> {
+    Some(match *words {
+        ["planning", count, slow] => planning::run(count.parse().ok()?, slow.parse().ok()?, None),
+        ["planning", count, slow, lemon] => {
+            let lemon = PathBuf::from(lemon);
+            planning::run(count.parse().ok()?, slow.parse().ok()?, Some(&lemon))
+        }
+        ["questions", count, slow] => questions::run(count.parse().ok()?, slow.parse().ok()?),
+        ["growth", count, plot] => growth::run(count.parse().ok()?, &PathBuf::from(plot)),
+        ["once", engine, kind, count] => {
+            let engine = engines::named(engine)?;
+            engines::once(engine, sheets::Kind::named(kind)?, count.parse().ok()?);
+            Ok(())
+        }
+        _ => return None,
+    })
+}
+
+fn main() -> ExitCode {
+    let arguments: Vec<String> = std::env::args().skip(1).collect();
+    let words: Vec<&str> = arguments.iter().map(String::as_str).collect();
+    match answer(&words) {
+        None => {
+            eprintln!("{USAGE}");
+            ExitCode::from(2)
+        }
+        Some(Ok(())) => ExitCode::SUCCESS,
+        Some(Err(message)) => {
+            eprintln!("{message}");
+            ExitCode::FAILURE
+        }
+    }
+}

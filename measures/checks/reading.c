@@ -1,0 +1,105 @@
+/* The reading calls: the first refusal must be the right one, and what is accepted must be written back to the same bytes. */
+#include "checks.h"
+#include "lent.h"
+
+#include <stdbool.h>
+#include <stdio.h>
+#include <stdlib.h>
+#include <string.h>
+
+enum { LINE = KIWIMOUND_LINE_BYTES };
+
+struct refusal {
+    uint32_t number, line;
+};
+
+/* The four numbers of a line, if writing them gives the line again. */
+static bool numbers_of(const uint8_t *line, uint32_t numbers[4]) {
+    char text[LINE + 1];
+    for (int i = 0; i < 4; i++) {
+        char field[6] = {0};
+        memcpy(field, line + 5 * i, 5);
+        numbers[i] = (uint32_t)strtoul(field, NULL, 10);
+        if (numbers[i] > 99999) return false;
+    }
+    snprintf(text, sizeof text, "%5u%5u%5u%5u\n", numbers[0], numbers[1], numbers[2], numbers[3]);
+    return memcmp(text, line, LINE) == 0;
+}
+
+static bool within(uint32_t low, uint32_t value, uint32_t high) { return low <= value && value <= high; }
+
+/* The checks 3 to 9 on a head line's numbers and flat rations. */
+static struct refusal refusal_of(const uint32_t head[4], const uint32_t *flat, size_t count) {
+    if (!within(1, head[0], 96)) return (struct refusal){3, 1};
+    if (!within(1, head[1], 8)) return (struct refusal){4, 1};
+    if (head[2] > 200) return (struct refusal){5, 1};
+    if (head[3] > 64 || count != 4 * head[3]) return (struct refusal){6, 1};
+    uint32_t before = 0;
+    for (uint32_t i = 0; i < head[3]; i++, flat += 4) {
+        if (!within(before + 1, flat[0], 999)) return (struct refusal){7, i + 2};
+        if (!within(1, flat[1], flat[2]) || flat[2] > head[0]) return (struct refusal){8, i + 2};
+        if (!within(1, flat[3], flat[2] - flat[1] + 1)) return (struct refusal){9, i + 2};
+        before = flat[0];
+    }
+    return (struct refusal){0, 0};
+}
+
+/* The checks 1 to 9 on bytes. */
+static struct refusal first_refusal(const uint8_t *sheet, size_t size, uint32_t head[4], uint32_t flat[256]) {
+    if (size < LINE || size > KIWIMOUND_MAX_SHEET_BYTES || size % LINE) return (struct refusal){1, 0};
+    uint32_t numbers[4];
+    for (size_t i = 0; i < size / LINE; i++)
+        if (!numbers_of(sheet + LINE * i, numbers)) return (struct refusal){2, (uint32_t)i + 1};
+    numbers_of(sheet, head);
+    size_t n = size / LINE - 1;
+    for (size_t i = 0; i < n && i < 64; i++) numbers_of(sheet + LINE * (i + 1), flat + 4 * i);
+    return refusal_of(head, flat, 4 * n);
+}
+
+static void check_find(const uint8_t *sheet, size_t size, uint32_t tank, struct refusal expected, const uint32_t head[4], const uint32_t *flat) {
+    kiwimound_part part = kiwimound_find(sheet, size, tank);
+    size_t start = 0;
+    for (size_t i = 0; expected.number == 0 && i < head[3]; i++)
+        if (flat[4 * i] == tank) start = LINE * (i + 1);
+    if (part.start != start || part.length != (start ? LINE : 0)) fail("find gives another part");
+}
+
+/* Writes numbers to buffers too short, just long enough and longer. */
+static void check_write(const uint32_t head[4], const uint32_t *flat, size_t count, const uint8_t *sheet) {
+    struct refusal expected = refusal_of(head, flat, count);
+    size_t least = KIWIMOUND_SHEET_BYTES(head[3] > 64 ? 64 : head[3]);
+    size_t sizes[] = {0, least - 1, least, least + 30};
+    for (size_t i = 0; i < 4; i++) {
+        struct refusal now = expected.number == 0 && sizes[i] < least ? (struct refusal){10, 0} : expected;
+        const uint32_t *numbers = lend_numbers(NUMBERS, flat, count);
+        uint8_t *out = lend_buffer(OUT, sizes[i]);
+        kiwimound_written w = kiwimound_write(head[0], head[1], head[2], head[3], numbers, count, out, sizes[i]);
+        if (w.number != now.number || w.line != now.line || w.length != (now.number ? 0 : least)) fail("write answers otherwise");
+        if (now.number == 0 && sheet && memcmp(out, sheet, least)) fail("write gives other bytes");
+        take_back(OUT, w.length);
+        take_back(NUMBERS, 4 * count);
+    }
+}
+
+uint32_t check_reading(const uint8_t *bytes, size_t size, uint32_t choice) {
+    uint32_t head[4] = {0}, flat[256 + 2] = {0};
+    struct refusal expected = first_refusal(bytes, size, head, flat);
+    const uint8_t *sheet = lend_bytes(SHEET, bytes, size);
+    kiwimound_reading r = kiwimound_read(sheet, size);
+    if (r.number != expected.number || r.line != expected.line) fail("read gives another refusal");
+    uint32_t numbers[] = {r.slots, r.blowers, r.wake, r.rations};
+    uint32_t zeros[256] = {0};
+    bool accepted = r.number == 0;
+    if (memcmp(numbers, accepted ? head : zeros, sizeof numbers)) fail("read gives another head line");
+    if (memcmp(r.numbers, accepted ? flat : zeros, sizeof r.numbers)) fail("read gives other rations");
+    check_find(sheet, size, choice % 1001, expected, head, flat);
+    check_find(sheet, size, flat[4 * (choice % 64)], expected, head, flat);
+    check_find(sheet, size, choice, expected, head, flat);
+    take_back(SHEET, size);
+    size_t n = head[3] > 64 ? 64 : head[3];
+    check_write(head, flat, 4 * n, accepted ? bytes : NULL);
+    /* One number changed, and a list of another length. */
+    flat[choice % 256] = choice >> 8 & 1 ? choice >> 16 : choice >> 26;
+    check_write(head, flat, 4 * n + choice % 7 % 3, NULL);
+    return r.number;
+}

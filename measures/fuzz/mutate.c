@@ -1,0 +1,130 @@
+#include "mutate.h"
+
+#include <stdbool.h>
+#include <stdio.h>
+#include <stdlib.h>
+#include <string.h>
+
+enum { LINE = 21, MOST_RATIONS = 66 };
+
+static uint32_t state;
+
+static uint32_t below(uint32_t bound) {
+    state ^= state << 13;
+    state ^= state >> 17;
+    state ^= state << 5;
+    return state % bound;
+}
+
+static uint32_t between(uint32_t low, uint32_t high) { return low + below(high - low + 1); }
+
+struct sheet {
+    uint32_t head[4];
+    uint32_t rations[MOST_RATIONS][4]; /* tank, first, last, volume */
+};
+
+static uint32_t field(const uint8_t *at) {
+    char text[6] = {0};
+    memcpy(text, at, 5);
+    return (uint32_t)strtoul(text, NULL, 10) % 100000;
+}
+
+static void parse(struct sheet *s, const uint8_t *bytes, size_t size) {
+    memset(s, 0, sizeof *s);
+    for (size_t i = 0; i < size / LINE && i <= MOST_RATIONS; i++)
+        for (size_t f = 0; f < 4; f++) (i ? s->rations[i - 1] : s->head)[f] = field(bytes + LINE * i + 5 * f);
+    size_t n = size / LINE ? size / LINE - 1 : 0;
+    s->head[3] = n > MOST_RATIONS ? MOST_RATIONS : (uint32_t)n;
+}
+
+/* A ration somewhere in the day. */
+static void draw_ration(const struct sheet *s, uint32_t ration[4]) {
+    uint32_t day = s->head[0] ? s->head[0] : 1;
+    ration[0] = between(1, 999);
+    ration[1] = between(1, day);
+    ration[2] = between(ration[1], day);
+    ration[3] = between(1, ration[2] - ration[1] + 1);
+    if (below(2)) ration[3] = between(1, ration[3]);
+}
+
+static void draw_sheet(struct sheet *s) {
+    s->head[0] = below(3) ? between(1, 96) : 96;
+    s->head[1] = between(1, 8);
+    s->head[2] = below(2) ? below(10) : below(201);
+    s->head[3] = below(3) ? below(65) : below(8);
+    for (uint32_t i = 0; i < s->head[3]; i++) draw_ration(s, s->rations[i]);
+}
+
+static void change(struct sheet *s) {
+    uint32_t n = s->head[3];
+    uint32_t *ration = s->rations[n ? below(n) : 0];
+    switch (below(14)) {
+        case 0: s->head[0] = between(1, 96); break;
+        case 1: s->head[1] = between(1, 8); break;
+        case 2: s->head[2] = below(2) ? below(10) : below(201); break;
+        case 3: draw_ration(s, ration); break;
+        case 4: ration[1] = 1; ration[2] = s->head[0]; break;
+        case 5: ration[3] = ration[2] - ration[1] + 1; break;
+        case 6: ration[3]++; break;
+        case 7: ration[3]--; break;
+        case 8: ration[1 + below(2)]++; break;
+        case 9: ration[1 + below(2)]--; break;
+        case 10:
+            if (n < MOST_RATIONS) draw_ration(s, s->rations[s->head[3]++]);
+            break;
+        case 11:
+            if (n) memcpy(ration, s->rations[--s->head[3]], sizeof s->rations[0]);
+            break;
+        case 12:
+            for (uint32_t i = 0; i < n; i++) s->rations[i][1] = 1, s->rations[i][2] = s->head[0];
+            break;
+        case 13: draw_sheet(s); break;
+    }
+}
+
+static int by_tank(const void *a, const void *b) {
+    uint32_t one = *(const uint32_t *)a, other = *(const uint32_t *)b;
+    return (one > other) - (one < other);
+}
+
+static void clamp(uint32_t *value, uint32_t low, uint32_t high) {
+    if (*value < low) *value = low;
+    if (*value > high) *value = high;
+}
+
+/* Puts every number into its range. */
+static void repair(struct sheet *s) {
+    clamp(&s->head[0], 1, 96);
+    clamp(&s->head[1], 1, 8);
+    clamp(&s->head[2], 0, 200);
+    clamp(&s->head[3], 0, 64);
+    qsort(s->rations, s->head[3], sizeof s->rations[0], by_tank);
+    for (uint32_t i = 0, before = 0; i < s->head[3]; i++) {
+        uint32_t *r = s->rations[i];
+        clamp(&r[0], before + 1, 999 - (s->head[3] - 1 - i));
+        before = r[0];
+        clamp(&r[1], 1, s->head[0]);
+        clamp(&r[2], r[1], s->head[0]);
+        clamp(&r[3], 1, r[2] - r[1] + 1);
+    }
+}
+
+size_t mutate_sheet(uint8_t *bytes, size_t size, size_t most, unsigned int seed) {
+    static struct sheet s;
+    state = seed | 1;
+    below(1);
+    parse(&s, bytes, size);
+    if (size < LINE) draw_sheet(&s);
+    for (uint32_t times = between(1, 4); times; times--) change(&s);
+    bool is_repaired = below(8) != 0;
+    if (is_repaired) repair(&s);
+    size_t lines = s.head[3] + 1;
+    if (lines > most / LINE) lines = most / LINE;
+    for (size_t i = 0; i < lines; i++) {
+        const uint32_t *v = i ? s.rations[i - 1] : s.head;
+        char line[64];
+        snprintf(line, sizeof line, "%5u%5u%5u%5u\n", v[0] % 100000, v[1] % 100000, v[2] % 100000, v[3] % 100000);
+        memcpy(bytes + LINE * i, line, LINE);
+    }
+    return LINE * lines;
+}

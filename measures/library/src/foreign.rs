@@ -1,0 +1,102 @@
+//! The library's own declarations, as in include/kiwimound.h.
+
+#[repr(C)]
+#[derive(Clone, Copy, Debug, PartialEq, Eq)]
+pub struct Planned {
+    pub number: u32,
+    pub line: u32,
+    pub length: usize,
+}
+
+#[repr(C)]
+#[derive(Clone, Copy, Debug, PartialEq, Eq)]
+pub struct Compared {
+    pub number: u32,
+    pub line: u32,
+    pub same: bool,
+}
+
+#[repr(C)]
+#[derive(Clone, Copy, Debug, PartialEq, Eq)]
+pub struct ShortfallAnswer {
+    pub number: u32,
+    pub line: u32,
+    pub shortfall: i32,
+}
+
+#[repr(C)]
+#[derive(Clone, Copy, Debug, PartialEq, Eq)]
+pub struct BoundsAnswer {
+    pub number: u32,
+    pub line: u32,
+    pub yes: bool,
+}
+
+#[repr(C)]
+#[derive(Clone, Copy, Debug, PartialEq, Eq)]
+pub struct Reading {
+    pub number: u32,
+    pub line: u32,
+    pub slots: u32,
+    pub blowers: u32,
+    pub wake: u32,
+    pub rations: u32,
+    pub numbers: [u32; 256],
+}
+
+#[repr(C)]
+#[derive(Clone, Copy, Debug, PartialEq, Eq)]
+pub struct Written {
+    pub number: u32,
+    pub line: u32,
+    pub length: usize,
+}
+
+#[repr(C)]
+#[derive(Clone, Copy, Debug, PartialEq, Eq)]
+pub struct Part {
+    pub start: usize,
+    pub length: usize,
+}
+
+extern "C" {
+    pub fn kiwimound_plan(b: *const u8, n: usize, listing: *mut u8, size: usize) -> Planned;
+    pub fn kiwimound_plan_placing(b: *const u8, n: usize, placing: *mut u8, size: usize)
+        -> Planned;
+    pub fn kiwimound_plan_both(
+        b: *const u8,
+        n: usize,
+        listing: *mut u8,
+        listing_size: usize,
+        placing: *mut u8,
+        placing_size: usize,
+    ) -> Planned;
+    pub fn kiwimound_plan_number(b: *const u8, n: usize) -> Planned;
+    pub fn kiwimound_compare(a: *const u8, m: usize, b: *const u8, n: usize) -> Compared;
+    pub fn kiwimound_shortfall(
+        b: *const u8,
+        n: usize,
+        marks: *const u8,
+        slots: usize,
+    ) -> ShortfallAnswer;
+    pub fn kiwimound_bounds(
+        b: *const u8,
+        n: usize,
+        lows: *const u32,
+        low_count: usize,
+        highs: *const u32,
+        high_count: usize,
+    ) -> BoundsAnswer;
+    pub fn kiwimound_read(b: *const u8, n: usize) -> Reading;
+    pub fn kiwimound_write(
+        slots: u32,
+        blowers: u32,
+        wake: u32,
+        rations: u32,
+        numbers: *const u32,
+        count: usize,
+        out: *mut u8,
+        size: usize,
+    ) -> Written;
+    pub fn kiwimound_find(b: *const u8, n: usize, tank: u32) -> Part;
+}

@@ -1,0 +1,72 @@
+//! The calls of the proved static library, over slices. A slice is handed over as a
+//! pointer and a length.
+
+mod foreign;
+
+pub use foreign::{BoundsAnswer, Compared, Part, Planned, Reading, ShortfallAnswer, Written};
+
+/// Plans a sheet, with a plan buffer lent.
+pub fn plan(sheet: &[u8], listing: &mut [u8]) -> Planned {
+    let (out, size) = (listing.as_mut_ptr(), listing.len());
+    // SAFETY: here and below, each pointer and length are those of one slice.
+    unsafe { foreign::kiwimound_plan(sheet.as_ptr(), sheet.len(), out, size) }
+}
+
+/// Plans a sheet, with a placing buffer lent.
+pub fn plan_placing(sheet: &[u8], placing: &mut [u8]) -> Planned {
+    let (out, size) = (placing.as_mut_ptr(), placing.len());
+    unsafe { foreign::kiwimound_plan_placing(sheet.as_ptr(), sheet.len(), out, size) }
+}
+
+/// Plans a sheet, with both buffers lent.
+pub fn plan_both(sheet: &[u8], listing: &mut [u8], placing: &mut [u8]) -> Planned {
+    let (bytes, n) = (sheet.as_ptr(), sheet.len());
+    let (out, size) = (listing.as_mut_ptr(), listing.len());
+    unsafe {
+        foreign::kiwimound_plan_both(bytes, n, out, size, placing.as_mut_ptr(), placing.len())
+    }
+}
+
+/// Plans a sheet with no buffer lent.
+pub fn plan_number(sheet: &[u8]) -> Planned {
+    unsafe { foreign::kiwimound_plan_number(sheet.as_ptr(), sheet.len()) }
+}
+
+/// Compares the days of two sheets.
+pub fn compare(one: &[u8], other: &[u8]) -> Compared {
+    unsafe { foreign::kiwimound_compare(one.as_ptr(), one.len(), other.as_ptr(), other.len()) }
+}
+
+/// The shortfall of the marked slots.
+pub fn shortfall(sheet: &[u8], marks: &[u8]) -> ShortfallAnswer {
+    unsafe {
+        foreign::kiwimound_shortfall(sheet.as_ptr(), sheet.len(), marks.as_ptr(), marks.len())
+    }
+}
+
+/// Whether a sound placing exists under bounds.
+pub fn bounds(sheet: &[u8], lows: &[u32], highs: &[u32]) -> BoundsAnswer {
+    let (bytes, n) = (sheet.as_ptr(), sheet.len());
+    let (low, size) = (lows.as_ptr(), lows.len());
+    unsafe { foreign::kiwimound_bounds(bytes, n, low, size, highs.as_ptr(), highs.len()) }
+}
+
+/// Reads a sheet.
+pub fn read(sheet: &[u8]) -> Reading {
+    unsafe { foreign::kiwimound_read(sheet.as_ptr(), sheet.len()) }
+}
+
+/// Writes a sheet: its head line's four numbers and the flat numbers of its rations.
+pub fn write(head: [u32; 4], numbers: &[u32], out: &mut [u8]) -> Written {
+    let [slots, blowers, wake, rations] = head;
+    let (flat, n) = (numbers.as_ptr(), numbers.len());
+    unsafe {
+        let (buffer, size) = (out.as_mut_ptr(), out.len());
+        foreign::kiwimound_write(slots, blowers, wake, rations, flat, n, buffer, size)
+    }
+}
+
+/// Where the line of a tank stands in the sheet.
+pub fn find(sheet: &[u8], tank: u32) -> Part {
+    unsafe { foreign::kiwimound_find(sheet.as_ptr(), sheet.len(), tank) }
+}

@@ -1,0 +1,149 @@
+//! Sheets of all kinds, well-formed or not, to compare answers on. A kind's share of the run is set by what the reference
+//! needs for it: a full sheet that is planned takes it most of a second.
+
+use reference::damage::damaged_sheet;
+use reference::draws::Draws;
+use reference::generate::{
+    any_sheet, full_sheet, held_full_sheet, held_sheet, tight_sheet, Sizes, FULL, MIDDLE, SMALL,
+};
+use reference::sheet::{line_text, FIELD, LINE};
+
+/// A kind of sheet, and how many of it there are in each 10,000.
+pub struct Kind {
+    pub name: &'static str,
+    pub share: u32,
+    pub make: fn(&mut Draws) -> Vec<u8>,
+}
+
+pub const KINDS: [Kind; 16] = [
+    kind("full, planned or held", 4, |d| full_sheet(d).text()),
+    kind("full, held", 60, |d| held_full_sheet(d).text()),
+    kind("any size", 40, |d| any_sheet(d, FULL).text()),
+    kind("any size, tight", 40, |d| tight_sheet(d, FULL).text()),
+    kind("any size, held", 200, |d| held_sheet(d, FULL).text()),
+    kind("any size, damaged", 200, |d| damaged_sheet(d, FULL)),
+    kind("middle", 400, |d| any_sheet(d, MIDDLE).text()),
+    kind("middle, tight", 300, |d| tight_sheet(d, MIDDLE).text()),
+    kind("middle, held", 600, |d| held_sheet(d, MIDDLE).text()),
+    kind("middle, damaged", 800, |d| damaged_sheet(d, MIDDLE)),
+    kind("small", 2000, |d| any_sheet(d, SMALL).text()),
+    kind("small, tight", 1500, |d| tight_sheet(d, SMALL).text()),
+    kind("small, held", 1000, |d| held_sheet(d, SMALL).text()),
+    kind("one field changed", 1200, one_field),
+    kind("another length", 800, another_length),
+    kind("random bytes", 856, random_bytes),
+];
+
+const fn kind(name: &'static str, share: u32, make: fn(&mut Draws) -> Vec<u8>) -> Kind {
+    Kind { name, share, make }
+}
+
+/// The kind of the sheet with this place in the run: the rarest first in each 10,000.
+pub fn kind_at(place: usize) -> usize {
+    let mut left = place as u32 % 10_000;
+    for (at, kind) in KINDS.iter().enumerate() {
+        if left < kind.share {
+            return at;
+        }
+        left -= kind.share;
+    }
+    unreachable!("the shares add up to 10,000")
+}
+
+/// The numbers that the sheet with this place is made from, so that it can be made
+/// again without those before it.
+pub fn draws_at(place: usize) -> Draws {
+    Draws::new((place as u32).wrapping_mul(2_654_435_769))
+}
+
+fn some_limits(draws: &mut Draws) -> Sizes {
+    if draws.one_in(4) {
+        MIDDLE
+    } else {
+        SMALL
+    }
+}
+
+/// A well-formed sheet with one field of one line set: to a number at a limit, to one
+/// near it, or to text that is no number.
+fn one_field(draws: &mut Draws) -> Vec<u8> {
+    const NUMBERS: [u32; 13] = [0, 1, 2, 8, 9, 64, 65, 96, 97, 200, 201, 999, 1000];
+    const TEXTS: [&[u8; FIELD]; 12] = [
+        b"     ", b"   01", b"   00", b"00000", b"  1  ", b"1    ", b"   -1", b"   +1", b" 1 1 ",
+        b"\t   1", b"99999", b"    x",
+    ];
+    let limits = some_limits(draws);
+    let mut bytes = any_sheet(draws, limits).text();
+    let lines = bytes.len() / LINE;
+    let line = if draws.one_in(3) {
+        0
+    } else {
+        draws.index(lines)
+    };
+    let at = line * LINE + draws.index(4) * FIELD;
+    let field = &mut bytes[at..at + FIELD];
+    if draws.one_in(3) {
+        field.copy_from_slice(TEXTS[draws.index(TEXTS.len())]);
+    } else {
+        let near = NUMBERS[draws.index(NUMBERS.len())] + draws.below(3);
+        let text = line_text([near.saturating_sub(1), 0, 0, 0]);
+        field.copy_from_slice(&text[..FIELD]);
+    }
+    bytes
+}
+
+/// A well-formed sheet cut to any length or made longer; once in a while past the
+/// longest that is read.
+fn another_length(draws: &mut Draws) -> Vec<u8> {
+    let limits = some_limits(draws);
+    let mut bytes = any_sheet(draws, limits).text();
+    let whole_lines = draws.one_in(4);
+    let mut length = draws.index(bytes.len() + 3 * LINE);
+    if draws.one_in(50) {
+        length = 65_480 + draws.index(80);
+    }
+    if whole_lines {
+        length -= length % LINE;
+    }
+    while bytes.len() < length {
+        bytes.extend(line_text([1 + draws.below(999), 1, 1, 1]));
+    }
+    bytes.truncate(length);
+    bytes
+}
+
+/// Bytes at random: of all values, or of those that a sheet is made of.
+fn random_bytes(draws: &mut Draws) -> Vec<u8> {
+    const LIKELY: &[u8] = b"     0123456789 \n";
+    let lines = draws.index(8);
+    let mut length = lines * LINE;
+    if draws.one_in(4) {
+        length += draws.index(LINE);
+    }
+    let any = draws.one_in(3);
+    let mut bytes: Vec<u8> = (0..length)
+        .map(|_| match any {
+            true => draws.below(256) as u8,
+            false => LIKELY[draws.index(LIKELY.len())],
+        })
+        .collect();
+    if draws.one_in(2) {
+        for line in bytes.chunks_exact_mut(LINE) {
+            line[LINE - 1] = b'\n';
+        }
+    }
+    bytes
+}
+
+#[cfg(test)]
+mod tests {
+    use super::*;
+
+    #[test]
+    fn every_place_has_a_kind() {
+        let all: u32 = KINDS.iter().map(|kind| kind.share).sum();
+        assert_eq!(all, 10_000);
+        assert_eq!(kind_at(0), 0);
+        assert_eq!(kind_at(9_999), KINDS.len() - 1);
+    }
+}

@@ -1,0 +1,85 @@
+/* How much stack each call needs beyond what it is lent: it runs in a thread on painted memory, and the lowest byte that changed says how deep it went. */
+#include "kiwimound.h"
+#include "packed.h"
+
+#include <pthread.h>
+#include <stdio.h>
+#include <stdlib.h>
+#include <string.h>
+
+enum { STACK = 1 << 20, PAINT = 0xA5, LIMIT = 64 << 10 };
+
+static uint8_t stack[STACK] __attribute__((aligned(4096)));
+static uint8_t sheet[70000], listing[KIWIMOUND_LISTING_BYTES], placing[KIWIMOUND_PLACING_BYTES], out[70000];
+static size_t size;
+static uint8_t marks[96];
+static uint32_t lows[96], highs[96];
+static kiwimound_reading reading;
+
+static void nothing(void) {}
+static void read_sheet(void) { reading = kiwimound_read(sheet, size); }
+static void write_sheet(void) {
+    kiwimound_write(reading.slots, reading.blowers, reading.wake, reading.rations, reading.numbers, 4 * reading.rations, out, sizeof out);
+}
+static void find(void) { kiwimound_find(sheet, size, 999); }
+static void plan(void) { kiwimound_plan(sheet, size, listing, sizeof listing); }
+static void plan_placing(void) { kiwimound_plan_placing(sheet, size, placing, sizeof placing); }
+static void plan_both(void) { kiwimound_plan_both(sheet, size, listing, sizeof listing, placing, sizeof placing); }
+static void plan_number(void) { kiwimound_plan_number(sheet, size); }
+static void compare(void) { kiwimound_compare(sheet, size, sheet, size); }
+static void shortfall(void) { kiwimound_shortfall(sheet, size, marks, reading.slots); }
+static void bounds(void) { kiwimound_bounds(sheet, size, lows, reading.slots, highs, reading.slots); }
+
+static struct {
+    const char *name;
+    void (*call)(void);
+    size_t deepest;
+} calls[] = {
+    {"nothing", nothing, 0},         {"read", read_sheet, 0},           {"write", write_sheet, 0}, {"find", find, 0},
+    {"plan", plan, 0},               {"plan_placing", plan_placing, 0}, {"plan_both", plan_both, 0}, {"plan_number", plan_number, 0},
+    {"compare", compare, 0},         {"shortfall", shortfall, 0},       {"bounds", bounds, 0},
+};
+
+static uint8_t *top;
+
+static void *run(void *call) {
+    uint8_t here;
+    top = &here;
+    (*(void (**)(void))call)();
+    return NULL;
+}
+
+static size_t depth_of(void (*call)(void)) {
+    pthread_attr_t attributes;
+    pthread_t thread;
+    memset(stack, PAINT, sizeof stack);
+    pthread_attr_init(&attributes);
+    if (pthread_attr_setstack(&attributes, stack, sizeof stack) || pthread_create(&thread, &attributes, run, &call)) abort();
+    pthread_join(thread, NULL);
+    uint8_t *lowest = stack;
+    while (*lowest == PAINT) lowest++;
+    return (size_t)(top - lowest);
+}
+
+int main(void) {
+    long n, sheets = 0;
+    for (size_t t = 0; t < 96; t++) highs[t] = 8;
+    for (; (n = next_sheet(sheet, sizeof sheet)) >= 0; sheets++) {
+        size = (size_t)n;
+        for (size_t i = 0; i < sizeof calls / sizeof *calls; i++) {
+            size_t depth = depth_of(calls[i].call);
+            if (depth > calls[i].deepest) calls[i].deepest = depth;
+        }
+    }
+    size_t deepest = 0;
+    printf("stack in bytes, the deepest of %ld sheets (the thread itself: %zu)\n", sheets, calls[0].deepest);
+    for (size_t i = 1; i < sizeof calls / sizeof *calls; i++) {
+        printf("%-14s%8zu\n", calls[i].name, calls[i].deepest);
+        if (calls[i].deepest > deepest) deepest = calls[i].deepest;
+    }
+    if (sheets == 0 || deepest >= LIMIT) {
+        printf("more than %d\n", LIMIT);
+        return 1;
+    }
+    return 0;
+}

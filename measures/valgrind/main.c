@@ -1,0 +1,20 @@
+/* Every call on the sheets of standard input, with memory from the heap, for valgrind to watch. */
+#include "checks.h"
+#include "packed.h"
+
+#include <stdio.h>
+
+int main(void) {
+    static uint8_t sheet[70000];
+    uint32_t numbers[13] = {0}, sheets = 0;
+    for (long n; (n = next_sheet(sheet, sizeof sheet)) >= 0; sheets++) {
+        uint32_t choice = sheets * 2654435769u;
+        check_reading(sheet, (size_t)n, choice);
+        numbers[check_planning(sheet, (size_t)n, choice).number]++;
+    }
+    printf("%u sheets, by number:", sheets);
+    for (uint32_t i = 0; i < 13; i++)
+        if (numbers[i]) printf(" %u of %u", numbers[i], i);
+    printf("\n");
+    return sheets == 0;
+}
