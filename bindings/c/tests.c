@@ -25,11 +25,11 @@ static unsigned failures = 0;
 
 #define FOUR_SLOTS_PLAN \
     "PLAN\n" \
-    "   10    2    4    5\n" \
+    "    9    2    4    5\n" \
     "    1    1    4    2\n" \
     "    2    1    2    0\n" \
     "    2    3    3    2\n" \
-    "    2    4    4    1\n" \
+    "    2    4    4    0\n" \
     "    1    1    1    1\n" \
     "    2    1    1    2\n" \
     "    3    1    2    1\n" \

@@ -47,7 +47,8 @@ static void check_stretches(const kiwimound_reading *sheet, const uint8_t *listi
             uint32_t s[4], to = from;
             bool busy = counts[from - 1] >= k;
             while (to < sheet->slots && (counts[to] >= k) == busy) to++;
-            uint32_t state = busy ? 2 : to - from + 1 >= sheet->wake ? 0 : 1;
+            bool at_end = from == 1 || to == sheet->slots;
+            uint32_t state = busy ? 2 : at_end || to - from + 1 >= sheet->wake ? 0 : 1;
             if (line++ == head[2]) fail("too few stretch lines");
             line_at(listing, line, s);
             if (s[0] != k || s[1] != from || s[2] != to || s[3] != state) fail("another stretch");

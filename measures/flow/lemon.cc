@@ -235,7 +235,8 @@ std::string listing(const Sheet& sheet, const std::vector<int>& counts,
       bool busy = counts[from] >= k;
       for (to = from; to < sheet.slots && (counts[to] >= k) == busy; to++) {
       }
-      int state = busy ? 2 : to - from >= sheet.wake ? 0 : 1;
+      bool at_end = from == 0 || to == sheet.slots;
+      int state = busy ? 2 : at_end || to - from >= sheet.wake ? 0 : 1;
       if (state) on += to - from;
       if (state && !before) starts++;
       before = state;

@@ -173,15 +173,18 @@ pub fn stretches(sheet: &Sheet, counts: &[u32]) -> Vec<Stretch> {
         let mut first = 1;
         for run in busy.chunk_by(|a, b| a == b) {
             let length = run.len() as u32;
+            let last = first + length - 1;
+            // Off at both ends of the day, at any length (request 101).
+            let at_end = first == 1 || last == sheet.slots;
             let state = match run[0] {
                 true => State::Busy,
-                false if length >= sheet.wake => State::Off,
+                false if at_end || length >= sheet.wake => State::Off,
                 false => State::IdleOn,
             };
             stretches.push(Stretch {
                 blower,
                 first,
-                last: first + length - 1,
+                last,
                 state,
             });
             first += length;

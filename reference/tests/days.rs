@@ -32,11 +32,11 @@ fn tanks_by_slot(plan: &Plan) -> Vec<Vec<u32>> {
 
 const FIRST: &str = "4 2 2 3 / 1 1 2 2 / 2 1 4 2 / 3 2 3 1";
 const FIRST_LISTING: &str = "PLAN
-   10    2    4    5
+    9    2    4    5
     1    1    4    2
     2    1    2    0
     2    3    3    2
-    2    4    4    1
+    2    4    4    0
     1    1    1    1
     2    1    1    2
     3    1    2    1
@@ -54,7 +54,7 @@ fn the_listing_of_document_01() {
     assert_eq!(program(&sheet(FIRST)), FIRST_LISTING.as_bytes());
     let plan = planned(FIRST);
     assert_eq!(plan.counts, [1, 1, 2, 1]);
-    assert_eq!(plan.energy, 10);
+    assert_eq!(plan.energy, 9);
 }
 
 #[test]
@@ -87,8 +87,8 @@ fn nearest_deadline_feeding_fails_here() {
 #[test]
 fn days_without_rations() {
     let plan = planned("3 1 4 0");
-    assert_eq!((plan.energy, plan.starts), (7, 1));
-    assert_eq!(plan.stretches[0].state, State::IdleOn);
+    assert_eq!((plan.energy, plan.starts), (0, 0));
+    assert_eq!(plan.stretches[0].state, State::Off);
     let plan = planned("3 1 3 0");
     assert_eq!((plan.energy, plan.starts), (0, 0));
     assert_eq!(plan.stretches[0].state, State::Off);

@@ -248,7 +248,8 @@ fn check_plan(sheet: &Sheet) -> bool {
     }
 }
 
-/// Energy slot by slot: an idle slot is on if fewer than q idle slots lie together.
+/// Energy slot by slot: an idle slot is on if fewer than q idle slots lie together, and
+/// the blower is busy both before and after them.
 fn check_energy(sheet: &Sheet, plan: &method::Plan) {
     let day = plan.counts.len();
     let (mut energy, mut starts) = (0, 0);
@@ -258,7 +259,8 @@ fn check_energy(sheet: &Sheet, plan: &method::Plan) {
         for t in 0..day {
             let before = (0..t).rev().take_while(|&u| idle(u)).count();
             let after = (t..day).take_while(|&u| idle(u)).count();
-            let on = !idle(t) || ((before + after) as u32) < sheet.wake;
+            let inner = before < t && t + after < day;
+            let on = !idle(t) || (inner && ((before + after) as u32) < sheet.wake);
             energy += u32::from(on);
             if on && !on_before {
                 starts += 1;

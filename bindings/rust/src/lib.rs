@@ -11,7 +11,7 @@
 //!     "    4    2    2    3\n    1    1    2    2\n    2    1    4    2\n    3    2    3    1\n",
 //! )?;
 //! let plan = sheet.plan()?;
-//! assert_eq!(plan.energy(), 10);
+//! assert_eq!(plan.energy(), 9);
 //! let off = plan.stretches().iter().find(|s| s.state == State::Off).unwrap();
 //! assert_eq!((off.blower, off.first, off.last), (2, 1, 2));
 //! # Ok::<(), Box<dyn std::error::Error>>(())

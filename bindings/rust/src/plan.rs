@@ -7,9 +7,9 @@ use std::fmt;
 /// What a blower does during a stretch.
 #[derive(Clone, Copy, Debug, PartialEq, Eq, Hash)]
 pub enum State {
-    /// Idle for at least the wake cost, and switched off.
+    /// Idle and switched off: at an end of the day, or for at least the wake cost.
     Off,
-    /// Idle, and kept on because a start would cost more.
+    /// Idle within the day, and kept on because a start would cost more.
     IdleOn,
     /// Feeding.
     Busy,

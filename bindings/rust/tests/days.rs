@@ -84,14 +84,14 @@ fn found_by_tank() {
 #[test]
 fn first_listing() {
     let plan = four_slots().plan().unwrap();
-    assert_eq!((plan.energy(), plan.starts()), (10, 2));
+    assert_eq!((plan.energy(), plan.starts()), (9, 2));
     assert_eq!(
         stretches(&four_slots()),
         [
             (1, 1, 4, State::Busy),
             (2, 1, 2, State::Off),
             (2, 3, 3, State::Busy),
-            (2, 4, 4, State::IdleOn)
+            (2, 4, 4, State::Off)
         ]
     );
     let feedings: Vec<[u32; 4]> = plan
@@ -131,7 +131,7 @@ fn first_listing() {
         }
     }
     assert!(!plan.is_fed(3, 1) && !plan.is_fed(64, 1) && !plan.is_fed(usize::MAX, u32::MAX));
-    assert!(plan.listing().starts_with(b"PLAN\n   10    2    4    5\n"));
+    assert!(plan.listing().starts_with(b"PLAN\n    9    2    4    5\n"));
     assert_eq!(plan.listing().len(), 5 + 21 * (1 + 4 + 5));
 }
 
@@ -166,18 +166,12 @@ fn nearest_deadline_fails_here() {
 
 #[test]
 fn energies() {
-    let empty_on = sheet(3, 1, 4, &[]);
-    assert_eq!(
-        (
-            empty_on.plan().unwrap().energy(),
-            empty_on.plan().unwrap().starts()
-        ),
-        (7, 1)
-    );
-    assert_eq!(stretches(&empty_on), [(1, 1, 3, State::IdleOn)]);
-    let empty_off = sheet(3, 1, 3, &[]);
-    assert_eq!(empty_off.plan().unwrap().energy(), 0);
-    assert_eq!(stretches(&empty_off), [(1, 1, 3, State::Off)]);
+    for wake in [3, 4] {
+        let empty = sheet(3, 1, wake, &[]);
+        let plan = empty.plan().unwrap();
+        assert_eq!((plan.energy(), plan.starts()), (0, 0));
+        assert_eq!(stretches(&empty), [(1, 1, 3, State::Off)]);
+    }
     assert_eq!(
         sheet(1, 1, 200, &[[1, 1, 1, 1]]).plan().unwrap().energy(),
         201

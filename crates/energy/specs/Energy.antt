@@ -1,14 +1,20 @@
 -- States of stretches, starts and energy. Definitions only. Assumes nothing.
-use mathlib.Core.Bool.{Bool, true, false, _&&_, cond}
+use mathlib.Core.Bool.{Bool, true, false, _&&_, _||_, cond}
 use mathlib.Core.List.{List, [], _∷_, map}
 use Prim.Native.Nat.{ℕ, _+_, _*_}
 use lib.Dec.{leb, eqb}
+use lib.ListN.{length}
 use Rattle.common.specs.Lists.{range, sum}
 use Rattle.stretches.specs.Intervals.{Interval, intervals, size}
 
--- a stretch's state: 2 busy; an idle stretch of at least q slots is off (0), a shorter one on (1); the ends of the day come under this too
-unfoldable pub state : ℕ → Interval → ℕ
-state q v = cond (v .busy) 2 (cond (leb q (size v)) 0 1)
+-- a stretch that touches slot 1 or the last slot
+unfoldable pub atEnd : (slots : ℕ) → Interval → Bool
+atEnd slots v = eqb (v .first) 1 || eqb (v .last) slots
+
+-- a stretch's state in a day of so many slots: 2 busy; an idle stretch is off (0) at any length at an end of the day, and with at least q slots within it; a
+-- shorter one is on (1)
+unfoldable pub state : (slots wake : ℕ) → Interval → ℕ
+state d q v = cond (v .busy) 2 (cond (atEnd d v || leb q (size v)) 0 1)
 
 -- One blower -------------------------------------------------------------------
 
@@ -17,8 +23,8 @@ unfoldable pub onIn : (state slots : ℕ) → ℕ
 onIn x n = cond (eqb x 0) 0 n
 
 -- the slots in which a blower with these stretches is on, busy ones included
-unfoldable pub onSlots : ℕ → List Interval → ℕ
-onSlots q vs = sum (map (λ v. onIn (state q v) (size v)) vs)
+unfoldable pub onSlots : (slots wake : ℕ) → List Interval → ℕ
+onSlots d q vs = sum (map (λ v. onIn (state d q v) (size v)) vs)
 
 -- a start: a step from off to on
 unfoldable pub startAt : (before after : ℕ) → ℕ
@@ -30,18 +36,18 @@ startsFrom before [] = 0
 startsFrom before (x ∷ xs) = startAt before x + startsFrom x xs
 
 -- blowers are off before slot 1
-unfoldable pub startsOf : ℕ → List Interval → ℕ
-startsOf q vs = startsFrom 0 (map (state q) vs)
+unfoldable pub startsOf : (slots wake : ℕ) → List Interval → ℕ
+startsOf d q vs = startsFrom 0 (map (state d q) vs)
 
 -- All blowers ------------------------------------------------------------------
 
 -- the starts of m blowers with these counts
 unfoldable pub starts : ℕ → ℕ → List ℕ → ℕ
-starts m q counts = sum (map (λ k. startsOf q (intervals counts k)) (range 1 m))
+starts m q counts = sum (map (λ k. startsOf (length counts) q (intervals counts k)) (range 1 m))
 
 -- their on slots
 unfoldable pub on : ℕ → ℕ → List ℕ → ℕ
-on m q counts = sum (map (λ k. onSlots q (intervals counts k)) (range 1 m))
+on m q counts = sum (map (λ k. onSlots (length counts) q (intervals counts k)) (range 1 m))
 
 -- energy: the number of on slots, plus q for each start
 unfoldable pub energy : ℕ → ℕ → List ℕ → ℕ

@@ -80,15 +80,15 @@ startAt-le x y = go (eqb x 0 && leb 1 y)
     go true = omega arith
     go false = omega arith
 
-onSlots-sizes : (q : ℕ) (vs : List Interval) → onSlots q vs ≤ sum (map size vs)
+onSlots-sizes : (d q : ℕ) (vs : List Interval) → onSlots d q vs ≤ sum (map size vs)
 unfolding onSlots
-onSlots-sizes q [] = omega arith
-onSlots-sizes q (v ∷ vs) = omega (arith, onIn-le (state q v) (size v), onSlots-sizes q vs)
+onSlots-sizes d q [] = omega arith
+onSlots-sizes d q (v ∷ vs) = omega (arith, onIn-le (state d q v) (size v), onSlots-sizes d q vs)
 
-pub onSlots-le : (q : ℕ) (counts : List ℕ) (k : ℕ) → onSlots q (intervals counts k) ≤ length counts
+pub onSlots-le : (d q : ℕ) (counts : List ℕ) (k : ℕ) → onSlots d q (intervals counts k) ≤ length counts
 unfolding intervals
-onSlots-le q counts k =
-    omega (arith, onSlots-sizes q (runs 1 (map (leb k) counts)), sizes-runs 1 (map (leb k) counts), length-map counts (leb k))
+onSlots-le d q counts k =
+    omega (arith, onSlots-sizes d q (runs 1 (map (leb k) counts)), sizes-runs 1 (map (leb k) counts), length-map counts (leb k))
 
 -- 1 for off
 abbrev off : ℕ → ℕ
@@ -107,10 +107,10 @@ unfolding startsFrom
 startsFrom-le [] x = omega arith
 startsFrom-le (y ∷ ys) x = omega (arith, startAt-off x y, startsFrom-le ys y)
 
-pub startsOf-le : (q : ℕ) (counts : List ℕ) (k : ℕ) → 2 * startsOf q (intervals counts k) ≤ suc (length counts)
+pub startsOf-le : (d q : ℕ) (counts : List ℕ) (k : ℕ) → 2 * startsOf d q (intervals counts k) ≤ suc (length counts)
 unfolding startsOf
-startsOf-le q counts k =
-    omega (arith, startsFrom-le (map (state q) (intervals counts k)) 0, length-map (intervals counts k) (state q), length-intervals counts k)
+startsOf-le d q counts k =
+    omega (arith, startsFrom-le (map (state d q) (intervals counts k)) 0, length-map (intervals counts k) (state d q), length-intervals counts k)
 
 -- All blowers ------------------------------------------------------------------
 
@@ -120,12 +120,12 @@ sum-range-le f c h a (suc m) = omega (arith, h a, sum-range-le f c h (suc a) m, 
 
 pub on-le : (m q : ℕ) (counts : List ℕ) → on m q counts ≤ m * length counts
 unfolding on
-on-le m q counts = sum-range-le (λ k. onSlots q (intervals counts k)) (length counts) (onSlots-le q counts) 1 m
+on-le m q counts = sum-range-le (λ k. onSlots (length counts) q (intervals counts k)) (length counts) (onSlots-le (length counts) q counts) 1 m
 
 pub starts-le : (m q : ℕ) (counts : List ℕ) → starts m q counts ≤ m * (suc (length counts) / 2)
 unfolding starts
 starts-le m q counts =
-    sum-range-le (λ k. startsOf q (intervals counts k)) (suc (length counts) / 2) (λ k. omega (arith, startsOf-le q counts k)) 1 m
+    sum-range-le (λ k. startsOf (length counts) q (intervals counts k)) (suc (length counts) / 2) (λ k. omega (arith, startsOf-le (length counts) q counts k)) 1 m
 
 -- The starts and the energy of every sheet's day: at most 8 blowers, 96 slots and a wake cost of 200.
 module _ (m q : ℕ) (counts : List ℕ) (few : m ≤ 8) (wake-most : q ≤ 200) (day : length counts ≤ 96) where

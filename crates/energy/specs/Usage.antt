@@ -8,8 +8,8 @@ use Rattle.energy.specs.Energy.{onSlots, startsOf, starts, energy}
 use Rattle.energy.specs.declared.BlowerUse.{BlowerUse}
 use Rattle.energy.specs.declared.DayUse.{DayUse}
 
-unfoldable pub blowerUse : ℕ → List Interval → BlowerUse
-blowerUse q vs = record { on = onSlots q vs; starts = startsOf q vs }
+unfoldable pub blowerUse : (slots wake : ℕ) → List Interval → BlowerUse
+blowerUse d q vs = record { on = onSlots d q vs; starts = startsOf d q vs }
 
 unfoldable pub dayUse : ℕ → ℕ → List ℕ → DayUse
 dayUse m q counts = record { energy = energy m q counts; starts = starts m q counts }

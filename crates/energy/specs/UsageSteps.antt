@@ -1,6 +1,6 @@
 -- How on slots and starts add up, from stretch to stretch and from blower to blower. Assumes nothing.
 use mathlib.Core.Path.{_≡_, refl, sym, ap, _∙_}
-use mathlib.Core.Bool.{Bool, true, false, _&&_, cond}
+use mathlib.Core.Bool.{Bool, true, false, _&&_, _||_, cond}
 use mathlib.Core.List.{List, [], _∷_, map}
 use Prim.Native.Nat.{ℕ, zero, suc, _+_, _-_, _*_, _≤_, _<_}
 use native.Mathlib.Nat.{mul-le-mul}
@@ -8,11 +8,12 @@ use native.Mathlib.Numerals.{add-one}
 use native.Mathlib.Omega.{arith}
 use lib.Dec.{leb, eqb}
 use lib.ListN.{length, getD, take, length-take}
+use lib.Seq.{length-take-le}
 use borrow.Author.Tests.{eq-eqb, ne-eqb, le-leb, lt-leb}
 use Rattle.common.specs.Lists.{range, sum}
 use Rattle.stretches.specs.Intervals.{Interval, intervals, size}
 use Rattle.stretches.specs.FrontRunLaws.{stretch, stretchesFrom, stretchesFrom-begin, stretchesFrom-end, EndsAt}
-use Rattle.energy.specs.Energy.{state, onIn, onSlots, startAt, startsFrom, startsOf, starts, on, energy}
+use Rattle.energy.specs.Energy.{atEnd, state, onIn, onSlots, startAt, startsFrom, startsOf, starts, on, energy}
 use Rattle.energy.specs.EnergyLaws.{onIn-le, startAt-le, onSlots-le, startsOf-le}
 use Rattle.energy.specs.Usage.{blowerUse, dayUse, Day, CanCharge}
 use Rattle.energy.specs.declared.BlowerUse.{BlowerUse}
@@ -20,18 +21,35 @@ use Rattle.energy.specs.declared.DayUse.{DayUse}
 
 -- ---- states, on slots and starts by cases
 
-pub state-busy : (q first last : ℕ) (b : Bool) → b ≡ true → 2 ≡ state q (stretch first last b)
+pub state-busy : (d q first last : ℕ) (b : Bool) → b ≡ true → 2 ≡ state d q (stretch first last b)
 unfolding state
-state-busy q first last b e = rw e
+state-busy d q first last b e = rw e
 
-module _ (q first last : ℕ) (b : Bool) (e : b ≡ false) (h : first ≤ last) where
-  pub state-off : q ≤ last + 1 - first → 0 ≡ state q (stretch first last b)
-  unfolding state size
-  state-off l = rw (e, le-leb q (suc last - first) (omega arith))
+module _ (d q first last : ℕ) (b : Bool) (e : b ≡ false) where
+  pub state-first : first ≡ 1 → 0 ≡ state d q (stretch first last b)
+  unfolding state atEnd
+  state-first f = rw (e, eq-eqb first 1 f)
 
-  pub state-on : last + 1 - first < q → 1 ≡ state q (stretch first last b)
-  unfolding state size
-  state-on l = rw (e, lt-leb q (suc last - first) (omega arith))
+  pub state-last : last ≡ d → 0 ≡ state d q (stretch first last b)
+  unfolding state atEnd
+  state-last f = rw (e, eq-eqb last d f, or-true (eqb first 1))
+    where
+      or-true : (x : Bool) → (x || true) ≡ true
+      or-true true = refl
+      or-true false = refl
+
+  module _ (h : first ≤ last) where
+    pub state-off : q ≤ last + 1 - first → 0 ≡ state d q (stretch first last b)
+    unfolding state size
+    state-off l = rw (e, le-leb q (suc last - first) (omega arith), or-true (atEnd d (stretch first last false)))
+      where
+        or-true : (x : Bool) → (x || true) ≡ true
+        or-true true = refl
+        or-true false = refl
+
+    pub state-on : (first ≡ 1 → ⊥) → (last ≡ d → ⊥) → last + 1 - first < q → 1 ≡ state d q (stretch first last b)
+    unfolding state atEnd size
+    state-on f g l = rw (e, ne-eqb first 1 f, ne-eqb last d g, lt-leb q (suc last - first) (omega arith))
 
 pub onIn-off : (x n : ℕ) → x ≡ 0 → 0 ≡ onIn x n
 unfolding onIn
@@ -64,8 +82,8 @@ pub record UsedTo (q : ℕ) (counts : List ℕ) (slots k from before : ℕ) (use
   pub in-day : from ≤ slots
   pub on-few : used ≤ from
   pub starts-few : started ≤ from
-  pub on-all : onSlots q (intervals (take slots counts) k) ≡ used + onSlots q (stretchesFrom counts slots k from)
-  pub starts-all : startsOf q (intervals (take slots counts) k) ≡ started + startsFrom before (map (state q) (stretchesFrom counts slots k from))
+  pub on-all : onSlots slots q (intervals (take slots counts) k) ≡ used + onSlots slots q (stretchesFrom counts slots k from)
+  pub starts-all : startsOf slots q (intervals (take slots counts) k) ≡ started + startsFrom before (map (state slots q) (stretchesFrom counts slots k from))
 
 module _ (q : ℕ) (counts : List ℕ) (slots k : ℕ) where
   pub usedTo-begin : UsedTo q counts slots k 0 0 0 0
@@ -75,12 +93,12 @@ module _ (q : ℕ) (counts : List ℕ) (slots k : ℕ) where
         in-day = omega arith;
         on-few = omega arith;
         starts-few = omega arith;
-        on-all = ap (onSlots q) (stretchesFrom-begin counts slots k) ∙ omega arith;
-        starts-all = ap (λ vs. startsFrom 0 (map (state q) vs)) (stretchesFrom-begin counts slots k) ∙ omega arith;
+        on-all = ap (onSlots slots q) (stretchesFrom-begin counts slots k) ∙ omega arith;
+        starts-all = ap (λ vs. startsFrom 0 (map (state slots q) vs)) (stretchesFrom-begin counts slots k) ∙ omega arith;
       }
 
   module _ (from before used started : ℕ) (u : UsedTo q counts slots k from before used started) where
-    pub usedTo-more : (end x n s : ℕ) (b : Bool) → EndsAt counts slots k from end → b ≡ leb k (getD counts from 0) → x ≡ state q (stretch (from + 1) end b) → n ≡ onIn x (end - from)
+    pub usedTo-more : (end x n s : ℕ) (b : Bool) → EndsAt counts slots k from end → b ≡ leb k (getD counts from 0) → x ≡ state slots q (stretch (from + 1) end b) → n ≡ onIn x (end - from)
         → s ≡ startAt before x → UsedTo q counts slots k end x (used + n) (started + s)
     unfolding onSlots startsFrom
     usedTo-more end x n s b e p f g h =
@@ -95,26 +113,26 @@ module _ (q : ℕ) (counts : List ℕ) (slots k : ℕ) where
         v : Interval
         v = stretch (from + 1) end (leb k (getD counts from 0))
 
-        x-v : x ≡ state q v
-        x-v = f ∙ ap (λ c. state q (stretch (from + 1) end c)) p
+        x-v : x ≡ state slots q v
+        x-v = f ∙ ap (λ c. state slots q (stretch (from + 1) end c)) p
 
-        more : onSlots q (stretchesFrom counts slots k from) ≡ n + onSlots q (stretchesFrom counts slots k end)
-        more = ap (onSlots q) (e .next) ∙ ap (λ m. m + onSlots q (stretchesFrom counts slots k end)) (rw (size-places from end (leb k (getD counts from 0)) (e .after), ← x-v) (sym g))
+        more : onSlots slots q (stretchesFrom counts slots k from) ≡ n + onSlots slots q (stretchesFrom counts slots k end)
+        more = ap (onSlots slots q) (e .next) ∙ ap (λ m. m + onSlots slots q (stretchesFrom counts slots k end)) (rw (size-places from end (leb k (getD counts from 0)) (e .after), ← x-v) (sym g))
 
-        begun : startsFrom before (map (state q) (stretchesFrom counts slots k from)) ≡ s + startsFrom x (map (state q) (stretchesFrom counts slots k end))
-        begun = ap (λ vs. startsFrom before (map (state q) vs)) (e .next) ∙ rw (← x-v, h)
+        begun : startsFrom before (map (state slots q) (stretchesFrom counts slots k from)) ≡ s + startsFrom x (map (state slots q) (stretchesFrom counts slots k end))
+        begun = ap (λ vs. startsFrom before (map (state slots q) vs)) (e .next) ∙ rw (← x-v, h)
 
-    pub usedTo-end : slots ≤ from → record { on = used; starts = started } ≡ blowerUse q (intervals (take slots counts) k)
+    pub usedTo-end : slots ≤ from → record { on = used; starts = started } ≡ blowerUse slots q (intervals (take slots counts) k)
     unfolding blowerUse onSlots startsFrom
     usedTo-end h = same _ _ _ _ (omega (arith, u .on-all, none)) (omega (arith, u .starts-all, unbegun))
       where
         last : from ≡ slots
         last = omega (arith, u .in-day)
 
-        none : onSlots q (stretchesFrom counts slots k from) ≡ 0
+        none : onSlots slots q (stretchesFrom counts slots k from) ≡ 0
         none = rw (last, stretchesFrom-end counts slots k)
 
-        unbegun : startsFrom before (map (state q) (stretchesFrom counts slots k from)) ≡ 0
+        unbegun : startsFrom before (map (state slots q) (stretchesFrom counts slots k from)) ≡ 0
         unbegun = rw (last, stretchesFrom-end counts slots k)
 
         same : (a b a′ b′ : ℕ) → a ≡ a′ → b ≡ b′ → _≡_ {A = BlowerUse} (record { on = a; starts = b }) (record { on = a′; starts = b′ })
@@ -134,8 +152,8 @@ pub record UsedBy (m q : ℕ) (counts : List ℕ) (slots done used started : ℕ
   pub in-range : done ≤ m
   pub on-few : used ≤ done * 96
   pub starts-few : started ≤ done * 96
-  pub on-all : on m q (take slots counts) ≡ used + sum (map (λ k. onSlots q (intervals (take slots counts) k)) (range (suc done) (m - done)))
-  pub starts-all : starts m q (take slots counts) ≡ started + sum (map (λ k. startsOf q (intervals (take slots counts) k)) (range (suc done) (m - done)))
+  pub on-all : on m q (take slots counts) ≡ used + sum (map (λ k. onSlots (length (take slots counts)) q (intervals (take slots counts) k)) (range (suc done) (m - done)))
+  pub starts-all : starts m q (take slots counts) ≡ started + sum (map (λ k. startsOf (length (take slots counts)) q (intervals (take slots counts) k)) (range (suc done) (m - done)))
 
 module _ (m q : ℕ) (counts : List ℕ) (slots : ℕ) (day : Day counts slots) where
   pub usedBy-begin : UsedBy m q counts slots 0 0 0
@@ -145,8 +163,8 @@ module _ (m q : ℕ) (counts : List ℕ) (slots : ℕ) (day : Day counts slots) 
         in-range = omega arith;
         on-few = omega arith;
         starts-few = omega arith;
-        on-all = whole (λ k. onSlots q (intervals (take slots counts) k));
-        starts-all = whole (λ k. startsOf q (intervals (take slots counts) k));
+        on-all = whole (λ k. onSlots (length (take slots counts)) q (intervals (take slots counts) k));
+        starts-all = whole (λ k. startsOf (length (take slots counts)) q (intervals (take slots counts) k));
       }
     where
       whole : (f : ℕ → ℕ) → sum (map f (range 1 m)) ≡ 0 + sum (map f (range 1 (m - 0)))
@@ -156,23 +174,25 @@ module _ (m q : ℕ) (counts : List ℕ) (slots : ℕ) (day : Day counts slots) 
           all n = omega arith
 
   module _ (done used started : ℕ) (u : UsedBy m q counts slots done used started) where
-    pub usedBy-more : (r : BlowerUse) → done < m → r ≡ blowerUse q (intervals (take slots counts) (done + 1)) → UsedBy m q counts slots (done + 1) (used + r .on) (started + r .starts)
+    pub usedBy-more : (r : BlowerUse) → done < m → r ≡ blowerUse slots q (intervals (take slots counts) (done + 1)) → UsedBy m q counts slots (done + 1) (used + r .on) (started + r .starts)
     unfolding blowerUse
-    usedBy-more r h e =
-        let p : r .on ≡ onSlots q (intervals (take slots counts) (done + 1)) = ap (λ (x : BlowerUse). x .on) e in
-        let s : r .starts ≡ startsOf q (intervals (take slots counts) (done + 1)) = ap (λ (x : BlowerUse). x .starts) e in
+    usedBy-more r h f =
+        let z : length (take slots counts) ≡ slots = length-take-le slots counts (omega (arith, day .long, day .day)) in
+        let e : r ≡ blowerUse (length (take slots counts)) q (intervals (take slots counts) (done + 1)) = f ∙ ap (λ n. blowerUse n q (intervals (take slots counts) (done + 1))) (sym z) in
+        let p : r .on ≡ onSlots (length (take slots counts)) q (intervals (take slots counts) (done + 1)) = ap (λ (x : BlowerUse). x .on) e in
+        let s : r .starts ≡ startsOf (length (take slots counts)) q (intervals (take slots counts) (done + 1)) = ap (λ (x : BlowerUse). x .starts) e in
         let l : length (take slots counts) ≤ 96 = rw length-take (omega arith) in
         record {
           in-range = omega arith;
-          on-few = omega (arith, onSlots-le q (take slots counts) (done + 1));
-          starts-few = omega (arith, startsOf-le q (take slots counts) (done + 1));
-          on-all = omega (arith, u .on-all, sum-next (λ k. onSlots q (intervals (take slots counts) k)) m done h);
-          starts-all = omega (arith, u .starts-all, sum-next (λ k. startsOf q (intervals (take slots counts) k)) m done h);
+          on-few = omega (arith, onSlots-le (length (take slots counts)) q (take slots counts) (done + 1));
+          starts-few = omega (arith, startsOf-le (length (take slots counts)) q (take slots counts) (done + 1));
+          on-all = omega (arith, u .on-all, sum-next (λ k. onSlots (length (take slots counts)) q (intervals (take slots counts) k)) m done h);
+          starts-all = omega (arith, u .starts-all, sum-next (λ k. startsOf (length (take slots counts)) q (intervals (take slots counts) k)) m done h);
         }
 
     pub usedBy-end : m ≤ done → record { energy = used + q * started; starts = started } ≡ dayUse m q (take slots counts)
     unfolding dayUse energy
-    usedBy-end h = same _ _ _ _ (omega (arith, u .on-all, none (λ k. onSlots q (intervals (take slots counts) k)))) (omega (arith, u .starts-all, none (λ k. startsOf q (intervals (take slots counts) k))))
+    usedBy-end h = same _ _ _ _ (omega (arith, u .on-all, none (λ k. onSlots (length (take slots counts)) q (intervals (take slots counts) k)))) (omega (arith, u .starts-all, none (λ k. startsOf (length (take slots counts)) q (intervals (take slots counts) k))))
       where
         none : (f : ℕ → ℕ) → sum (map f (range (suc done) (m - done))) ≡ 0
         none f = ap (λ n. sum (map f (range (suc done) n))) over

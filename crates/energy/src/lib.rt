@@ -1,7 +1,8 @@
 // Energy: which stretches are off, the starts, and the energy of a day.
 //
-// An idle stretch of at least q slots is off, a shorter one on. A blower's slots are passed once, from stretch to stretch: the on slots and the steps
-// from off to on add up, and the energy is their number with q for each start. For the layers above: each function asks for counts of a day.
+// An idle stretch is off at the ends of the day, and with at least q slots within it; a shorter one is on. A blower's slots are passed once, from stretch
+// to stretch: the on slots and the steps from off to on add up, and the energy is their number with q for each start. For the layers above: each function
+// asks for counts of a day.
 mod usage;
 
 pub use usage::day_use;

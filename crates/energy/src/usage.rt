@@ -9,13 +9,19 @@ ghost use Rattle.stretches.specs.FrontRunLaws.{stretch};
 ghost use Rattle.energy.specs.Energy.{state, onIn, startAt};
 ghost use Rattle.energy.specs.Usage.{blowerUse, dayUse, Day, CanCharge};
 
-// The state of a stretch: 0 off, 1 idle and on, 2 busy.
-pub fn stretch_state(wake: u32, first: usize, last: usize, busy: bool) -> u32
+// The state of a stretch in a day of so many slots: 0 off, 1 idle and on, 2 busy. At the ends of the day an idle stretch is off at any length.
+pub fn stretch_state(slots: usize, wake: u32, first: usize, last: usize, busy: bool) -> u32
     requires { ⌜ (first ≤ last) × (last ≤ 96) ⌝ }
-    ensures { λ r. ⌜ r ≡ state wake (stretch first last busy) ⌝ }
+    ensures { λ r. ⌜ r ≡ state slots wake (stretch first last busy) ⌝ }
 {
     if busy {
         return 2;
+    }
+    if first == 1 {
+        return 0;
+    }
+    if last == slots {
+        return 0;
     }
     if wake as usize <= last + 1 - first {
         return 0;
@@ -46,7 +52,7 @@ fn start_at(before: u32, after: u32) -> usize
 // One blower's on slots and starts: one pass over its stretches. Blowers are off before slot 1.
 fn blower_use(counts: &[u8; 96], slots: usize, blower: u32, wake: u32) -> BlowerUse
     requires { ⌜ Day (now counts) slots ⌝ }
-    ensures { λ r. ⌜ r ≡ blowerUse wake (intervals (take slots (now (counts .entry))) blower) ⌝ }
+    ensures { λ r. ⌜ r ≡ blowerUse slots wake (intervals (take slots (now (counts .entry))) blower) ⌝ }
 {
     let mut on = 0;
     let mut starts = 0;
@@ -55,7 +61,7 @@ fn blower_use(counts: &[u8; 96], slots: usize, blower: u32, wake: u32) -> Blower
     while from < slots {
         let busy = stretches::is_busy(blower, counts[from]);
         let end = stretches::stretch_end(counts, slots, blower, from);
-        let state = stretch_state(wake, from + 1, end, busy);
+        let state = stretch_state(slots, wake, from + 1, end, busy);
         on += on_in(state, end - from);
         starts += start_at(before, state);
         before = state;

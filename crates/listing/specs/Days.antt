@@ -1,4 +1,4 @@
--- The days of 'Days at the edge' as one table: a question about a sheet's text, beside what document 01 says. `answer` gives the answer of the definitions;
+-- The days of 'Days at the edge' as one table: a question about a sheet's text, beside what document 01 says, and request 101 where it changes that. `answer` gives the answer of the definitions;
 -- a plan's numbers are read off the program's whole output. Assumes nothing.
 use mathlib.Core.Path.{_≡_, refl}
 use mathlib.Core.Bool.{Bool, false}
@@ -93,11 +93,11 @@ deadlines =
     ∷ "    3    1    3    3" ∷ []
 
 -- a day without rations, and a wake cost one above its slots, or equal to them
-abbrev idleOn : Sheet
-idleOn = "    3    1    4    0" ∷ []
+abbrev idleLong : Sheet
+idleLong = "    3    1    4    0" ∷ []
 
-abbrev idleOff : Sheet
-idleOff = "    3    1    3    0" ∷ []
+abbrev idleEqual : Sheet
+idleEqual = "    3    1    3    0" ∷ []
 
 -- the day of one slot with the greatest wake cost
 abbrev oneSlot : Sheet
@@ -123,29 +123,29 @@ starredDays =
     (bytes
     (text
     ("PLAN"
-    ∷ "   10    2    4    5"
+    ∷ "    9    2    4    5"
     ∷ "    1    1    4    2"
     ∷ "    2    1    2    0"
     ∷ "    2    3    3    2"
-    ∷ "    2    4    4    1"
+    ∷ "    2    4    4    0"
     ∷ "    1    1    1    1"
     ∷ "    2    1    1    2"
     ∷ "    3    1    2    1"
     ∷ "    3    2    3    1"
     ∷ "    4    1    2    2" ∷ [])))
     ∷ day (countsFor listed) (numbers (1 ∷ 1 ∷ 2 ∷ 1 ∷ []))
-    ∷ day (energyFor listed) (number 10)
+    ∷ day (energyFor listed) (number 9)
     ∷ day (outputFor held) (bytes (text ("HELD" ∷ "   12    1    2    1" ∷ "    2    0    0    0" ∷ [])))
     ∷ day (shortfallFor held (1 ∷ 0 ∷ 0 ∷ [])) (signed 0 0 (pos 0))
     ∷ day (shortfallFor held (1 ∷ 1 ∷ 1 ∷ [])) (signed 0 0 (pos 1))
     ∷ day (shortfallFor listed (0 ∷ 0 ∷ 0 ∷ 1 ∷ [])) (signed 0 0 (negsuc 1))
     ∷ day (feedingsFor deadlines) (lines (line 1 1 1 1 ∷ line 1 2 3 1 ∷ line 2 1 2 1 ∷ line 2 2 3 2 ∷ line 3 1 3 3 ∷ []))
     ∷ day (energyFor deadlines) (number 7)
-    ∷ day (stretchesFor idleOn) (lines (line 1 1 3 1 ∷ []))
-    ∷ day (energyFor idleOn) (number 7)
-    ∷ day (startsFor idleOn) (number 1)
-    ∷ day (stretchesFor idleOff) (lines (line 1 1 3 0 ∷ []))
-    ∷ day (energyFor idleOff) (number 0)
+    ∷ day (stretchesFor idleLong) (lines (line 1 1 3 0 ∷ []))
+    ∷ day (energyFor idleLong) (number 0)
+    ∷ day (startsFor idleLong) (number 0)
+    ∷ day (stretchesFor idleEqual) (lines (line 1 1 3 0 ∷ []))
+    ∷ day (energyFor idleEqual) (number 0)
     ∷ day (energyFor oneSlot) (number 201)
     ∷ day (stretchesFor late) (lines (line 1 1 2 0 ∷ line 1 3 3 2 ∷ []))
     ∷ day (energyFor late) (number 2)

@@ -1,7 +1,7 @@
 -- Every number of a listing fits its field, and every listing fits the plan buffer. Assumes nothing.
 use mathlib.Core.Path.{_≡_, sym, ap, subst}
 use mathlib.Core.Logic.{_⊎_, inl, inr}
-use mathlib.Core.Bool.{Bool, true, false, cond}
+use mathlib.Core.Bool.{Bool, true, false, _||_, cond}
 use mathlib.Core.List.{List, [], _∷_, _++_, List·Memᴰ, List·Memᴰ·not-nil, List·Memᴰ·cases-cons, List·Memᴰ·append-cases, Memᴰ·of-map}
 use Prim.Native.Nat.{ℕ, zero, suc, _+_, _*_, _^_, _≤_, _<_}
 use native.Mathlib.Nat.{mul-le-mul, mul-le-mul-right, suc-inj, suc-mul}
@@ -18,7 +18,7 @@ use Rattle.placing.specs.Shortfall.{forced, capacity}
 use Rattle.placing.specs.Calls.{demandsOf, fullHigh}
 use Rattle.placing.specs.DemandLaws.{demandsOf-inRange}
 use Rattle.stretches.specs.Intervals.{Interval, size}
-use Rattle.energy.specs.Energy.{state, starts, energy}
+use Rattle.energy.specs.Energy.{atEnd, state, starts, energy}
 use Rattle.energy.specs.EnergyLaws.{starts-most, energy-most}
 use Rattle.listing.specs.Sizes.{planBytes}
 use Rattle.listing.specs.Lines.{Line, line, stretchLine, stretchLines, feedLine, feedLines, planLines, membersFrom, memberLines, heldLines}
@@ -35,9 +35,9 @@ use Rattle.listing.specs.DayLaws.{length-countsOf, countsOf-le, feedings
 
 -- Stretch lines -----------------------------------------------------------------------
 
-state-le : (q : ℕ) (v : Interval) → state q v ≤ 2
+state-le : (d q : ℕ) (v : Interval) → state d q v ≤ 2
 unfolding state
-state-le q v = go (v .busy) (leb q (size v))
+state-le d q v = go (v .busy) (atEnd d v || leb q (size v))
   where
     go : (b c : Bool) → cond b 2 (cond c 0 1) ≤ 2
     go true c = omega arith
@@ -48,7 +48,7 @@ pub fit-stretchLines : (m q : ℕ) (counts : List ℕ) → m ≤ maxBlowers → 
 unfolding stretchLine
 fit-stretchLines m q counts few day l i =
     let r = in-stretchLines q counts m l i in
-    subst FitsLine (sym (r .6)) (record { a = omega arith; b = omega arith; c = omega arith; d = omega (arith, state-le q (r .1)) })
+    subst FitsLine (sym (r .6)) (record { a = omega arith; b = omega arith; c = omega arith; d = omega (arith, state-le (length counts) q (r .1)) })
 
 -- Feed lines --------------------------------------------------------------------------
 

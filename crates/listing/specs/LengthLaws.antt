@@ -29,7 +29,7 @@ length-flatMap-range f c a (suc n) h =
 pub length-stretchLines : (m q : ℕ) (counts : List ℕ) → length (stretchLines m q counts) ≤ m * length counts
 unfolding stretchLines blowerLines
 length-stretchLines m q counts =
-    length-flatMap-range (blowerLines q counts) (length counts) 1 m (λ k _ _. omega (arith, length-map (intervals counts k) (stretchLine q k), length-intervals counts k))
+    length-flatMap-range (blowerLines q counts) (length counts) 1 m (λ k _ _. omega (arith, length-map (intervals counts k) (stretchLine (length counts) q k), length-intervals counts k))
 
 -- Feed lines -----------------------------------------------------------------------
 

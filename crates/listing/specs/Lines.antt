@@ -32,12 +32,12 @@ pub record Plan : Type 0 where
   pub placing : Schedule  -- the feedings
 
 -- a stretch of blower k: blower, first, last, state (0 off, 1 idle and on, 2 busy)
-unfoldable pub stretchLine : (wake k : ℕ) → Interval → Line
-stretchLine q k v = line k (v .first) (v .last) (state q v)
+unfoldable pub stretchLine : (slots wake k : ℕ) → Interval → Line
+stretchLine d q k v = line k (v .first) (v .last) (state d q v)
 
 -- the stretches of blower k, by slot
 unfoldable pub blowerLines : (wake : ℕ) → (counts : List ℕ) → (k : ℕ) → List Line
-blowerLines q counts k = map (stretchLine q k) (intervals counts k)
+blowerLines q counts k = map (stretchLine (length counts) q k) (intervals counts k)
 
 -- the stretch lines, by blower from 1, then slot
 unfoldable pub stretchLines : (blowers wake : ℕ) → (counts : List ℕ) → List Line

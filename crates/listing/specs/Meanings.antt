@@ -7,7 +7,7 @@ use Rattle.placing.specs.Meanings.{answers}
 use Rattle.stretches.specs.Method.{onRun, idleFor, busyFor, longest, idleRun, busyRun, settle, settleAll, loads}
 use Rattle.stretches.specs.Feedings.{prefer, cells, withCounts, chosen}
 use Rattle.stretches.specs.Intervals.{join, runs, intervals, size}
-use Rattle.energy.specs.Energy.{state, onIn, onSlots, startAt, startsFrom, startsOf, starts, on, energy}
+use Rattle.energy.specs.Energy.{atEnd, state, onIn, onSlots, startAt, startsFrom, startsOf, starts, on, energy}
 use Rattle.listing.specs.Lines.{stretchLine, blowerLines, stretchLines, partAt, fedIn, feedLine, slotLines, feedLines, planLines, membersFrom, memberLines, heldLines}
 use Rattle.listing.specs.Text.{writeLines, planText, heldText, refusalText}
 use Rattle.listing.specs.Planning.{canBePlanned, countsOf, feedingsOf, planOf, shownSet, listingOf, heldFaults, planRefusal, writes, output}
@@ -15,7 +15,7 @@ use Rattle.listing.specs.ReadListing.{lineIn, linesOf, headLine, stretch
 
 -- the method, feedings, stretches and energy
 unfoldable pub plans : Unit {0}
-unfolding onRun idleFor busyFor longest idleRun busyRun settle settleAll loads prefer cells withCounts chosen join runs intervals size state onIn onSlots startAt startsFrom startsOf starts on energy
+unfolding onRun idleFor busyFor longest idleRun busyRun settle settleAll loads prefer cells withCounts chosen join runs intervals size atEnd state onIn onSlots startAt startsFrom startsOf starts on energy
 plans = tt
 
 -- from text to text, and back to lines

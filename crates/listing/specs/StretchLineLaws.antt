@@ -1,7 +1,7 @@
 -- The stretches on the stretch lines: those of each blower are read back as its stretches, and there are none of other blowers. Assumes nothing.
 use mathlib.Core.Path.{_≡_, refl, sym, ap, ap₂, _∙_}
 use mathlib.Core.Logic.{_⊎_, inl, inr}
-use mathlib.Core.Bool.{Bool, true, false, cond}
+use mathlib.Core.Bool.{Bool, true, false, _||_, cond}
 use mathlib.Core.List.{List, [], _∷_, map, List·Memᴰ, List·Memᴰ·head, List·Memᴰ·not-nil, Memᴰ·of-map}
 use Prim.Native.Nat.{ℕ, _+_, _≤_, _<_}
 use native.Mathlib.Omega.{arith}
@@ -14,7 +14,7 @@ use Rattle.stretches.specs.Intervals.{Interval, intervals, size}
 use Rattle.stretches.specs.Keeping.{withNoSlots, stretches}
 use Rattle.stretches.specs.Cases.{le-or-lt}
 use Rattle.stretches.specs.IntervalLaws.{interval-longest}
-use Rattle.energy.specs.Energy.{state}
+use Rattle.energy.specs.Energy.{atEnd, state}
 use Rattle.listing.specs.Lines.{Line, stretchLine, blowerLines, stretchLines}
 use Rattle.listing.specs.ReadListing.{stretchOn, stretchesOn}
 use Rattle.listing.specs.ListLaws.{in-range, flatMap-range-none, flatMap-range-one, keep-all, keep-none, keep-flatMap, map-flatMap}
@@ -22,18 +22,18 @@ use Rattle.listing.specs.ListLaws.{in-range, flatMap-range-none, flatMap
 -- One line ------------------------------------------------------------------------
 
 -- state 2 is that of busy stretches alone
-busy-state : (q : ℕ) (v : Interval) → eqb (state q v) 2 ≡ v .busy
+busy-state : (d q : ℕ) (v : Interval) → eqb (state d q v) 2 ≡ v .busy
 unfolding state
-busy-state q v = go (v .busy) (leb q (size v))
+busy-state d q v = go (v .busy) (atEnd d v || leb q (size v))
   where
     go : (b c : Bool) → eqb (cond b 2 (cond c 0 1)) 2 ≡ b
     go true c = refl
     go false true = refl
     go false false = refl
 
-pub stretchOn-line : (q k : ℕ) (v : Interval) → stretchOn (stretchLine q k v) ≡ v
+pub stretchOn-line : (d q k : ℕ) (v : Interval) → stretchOn (stretchLine d q k v) ≡ v
 unfolding stretchOn stretchLine
-stretchOn-line q k v = λ i. record { first = v .first; last = v .last; busy = busy-state q v i }
+stretchOn-line d q k v = λ i. record { first = v .first; last = v .last; busy = busy-state d q v i }
 
 -- where a stretch is, one that has slots is
 some-stretch : (v : Interval) (vs : List Interval) → List·Memᴰ v (withNoSlots vs) → (u : Interval) × List·Memᴰ u vs
@@ -45,15 +45,15 @@ some-stretch v (u ∷ vs) i = (u, List·Memᴰ·head refl)
 module _ (q : ℕ) (counts : List ℕ) where
   of-blower : (j : ℕ) (l : Line) → List·Memᴰ l (blowerLines q counts j) → l .a ≡ j
   unfolding blowerLines stretchLine
-  of-blower j l m = let r = Memᴰ·of-map (stretchLine q j) (intervals counts j) m in ap (λ (x : Line). x .a) (sym (r .2))
+  of-blower j l m = let r = Memᴰ·of-map (stretchLine (length counts) q j) (intervals counts j) m in ap (λ (x : Line). x .a) (sym (r .2))
 
   stretches-blowerLines : (j : ℕ) → map stretchOn (blowerLines q counts j) ≡ intervals counts j
   unfolding blowerLines
   stretches-blowerLines j = go (intervals counts j)
     where
-      go : (vs : List Interval) → map stretchOn (map (stretchLine q j) vs) ≡ vs
+      go : (vs : List Interval) → map stretchOn (map (stretchLine (length counts) q j) vs) ≡ vs
       go [] = refl
-      go (v ∷ vs) = ap₂ (λ (x : Interval) (xs : List Interval). x ∷ xs) (stretchOn-line q j v) (go vs)
+      go (v ∷ vs) = ap₂ (λ (x : Interval) (xs : List Interval). x ∷ xs) (stretchOn-line (length counts) q j v) (go vs)
 
   blower-same : (k : ℕ) → map stretchOn (keep (λ l. eqb (l .a) k) (blowerLines q counts k)) ≡ intervals counts k
   blower-same k =
@@ -108,11 +108,11 @@ module _ (q : ℕ) (counts : List ℕ) where
 
     -- what stands on a stretch line
     pub in-stretchLines : (l : Line) → List·Memᴰ l (stretchLines m q counts)
-        → (k : ℕ) × (v : Interval) × (1 ≤ k) × (k ≤ m) × (v .first ≤ v .last) × (v .last ≤ length counts) × (l ≡ stretchLine q k v)
+        → (k : ℕ) × (v : Interval) × (1 ≤ k) × (k ≤ m) × (v .first ≤ v .last) × (v .last ≤ length counts) × (l ≡ stretchLine (length counts) q k v)
     unfolding stretchLines blowerLines
     in-stretchLines l i =
         let r = in-flatMap (blowerLines q counts) (range 1 m) i in
         let b = in-range 1 m (r .1) in
-        let w = Memᴰ·of-map (stretchLine q (r .0)) (intervals counts (r .0)) (r .2) in
+        let w = Memᴰ·of-map (stretchLine (length counts) q (r .0)) (intervals counts (r .0)) (r .2) in
         let e = interval-longest counts (r .0) (w .0) .0 (w .1) in
         (r .0, w .0, b .0, omega (arith, b .1), e .filled, e .stops, sym (w .2))

@@ -7,6 +7,7 @@ use native.Mathlib.Numerals.{add-one}
 use native.Mathlib.Omega.{arith}
 use lib.Dec.{leb}
 use lib.ListN.{length, getD, take, length-map}
+use lib.Seq.{length-take-le}
 use Rattle.common.specs.Lists.{range, flatMap}
 use Rattle.sheet.specs.Limits.{lineBytes, maxBlowers}
 use Rattle.sheet.specs.Sheet.{writeLine}
@@ -28,12 +29,12 @@ pub record CanPutStretch (out : List ℕ) (at slots : ℕ) (counts : List ℕ) (
 -- the line of the stretch that begins after place `from` was put, and r is its last slot
 pub record StretchPut (q : ℕ) (counts : List ℕ) (slots k from at : ℕ) (old new : List ℕ) (r : ℕ) : Type 0 where
   pub ends : EndsAt counts slots k from r
-  pub text : new ≡ putAt at (writeLine k (from + 1) r (state q (stretch (from + 1) r (leb k (getD counts from 0))))) old
+  pub text : new ≡ putAt at (writeLine k (from + 1) r (state slots q (stretch (from + 1) r (leb k (getD counts from 0))))) old
 
 pub stretch-put : (q : ℕ) (counts : List ℕ) (slots k from at : ℕ) (old new : List ℕ) (r x : ℕ) (b : Bool) → EndsAt counts slots k from r → b ≡ leb k (getD counts from 0)
-    → x ≡ state q (stretch (from + 1) r b) → new ≡ putAt at (writeLine k (from + 1) r x) old → StretchPut q counts slots k from at old new r
+    → x ≡ state slots q (stretch (from + 1) r b) → new ≡ putAt at (writeLine k (from + 1) r x) old → StretchPut q counts slots k from at old new r
 stretch-put q counts slots k from at old new r x b e p f t =
-    record { ends = e; text = t ∙ ap (λ y. putAt at (writeLine k (from + 1) r y) old) (f ∙ ap (λ c. state q (stretch (from + 1) r c)) p) }
+    record { ends = e; text = t ∙ ap (λ y. putAt at (writeLine k (from + 1) r y) old) (f ∙ ap (λ c. state slots q (stretch (from + 1) r c)) p) }
 
 -- One blower -----------------------------------------------------------------------
 
@@ -44,7 +45,7 @@ pub record CanPutBlower (out : List ℕ) (at slots k q : ℕ) (counts : List ℕ
 -- of blower k the stretches before place `from` were put
 pub record BlowerPut (q : ℕ) (counts : List ℕ) (slots k from at : ℕ) (old new : List ℕ) (n : ℕ) : Type 0 where
   pub in-day : from ≤ slots
-  pub putting : Putting (blowerLines q (take slots counts) k) (map (stretchLine q k) (stretchesFrom counts slots k from)) at old new n
+  pub putting : Putting (blowerLines q (take slots counts) k) (map (stretchLine slots q k) (stretchesFrom counts slots k from)) at old new n
 
 module _ (q : ℕ) (counts : List ℕ) (slots k at : ℕ) (old : List ℕ) (can : CanPutBlower old at slots k q counts) where
   pub blower-begin : BlowerPut q counts slots k 0 at old old 0
@@ -52,7 +53,9 @@ module _ (q : ℕ) (counts : List ℕ) (slots k at : ℕ) (old : List ℕ) (can 
   blower-begin =
       record {
         in-day = omega arith;
-        putting = putting-begin at old _ (can .room) _ (ap (map (stretchLine q k)) (stretchesFrom-begin counts slots k));
+        putting = putting-begin at old _ (can .room) _
+            (ap (λ d. map (stretchLine d q k) (intervals (take slots counts) k)) (length-take-le slots counts (omega (arith, can .counted .long, can .counted .day)))
+            ∙ ap (map (stretchLine slots q k)) (stretchesFrom-begin counts slots k));
       }
 
   module _ (from n : ℕ) (new : List ℕ) (p : BlowerPut q counts slots k from at old new n) where
@@ -61,7 +64,7 @@ module _ (q : ℕ) (counts : List ℕ) (slots k at : ℕ) (old : List ℕ) (can 
         omega (
           arith,
           stretchesFrom-some counts slots k from h (omega (arith, can .counted .long, can .counted .day)),
-          length-map (stretchesFrom counts slots k from) (stretchLine q k),
+          length-map (stretchesFrom counts slots k from) (stretchLine slots q k),
           p .putting .number,
           p .putting .same-length,
           can .room,
@@ -73,8 +76,8 @@ module _ (q : ℕ) (counts : List ℕ) (slots k at : ℕ) (old : List ℕ) (can 
         record {
           in-day = s .ends .within;
           putting =
-              putting-more at old _ (can .room) (stretchLine q k v ∷ []) _ 1 (p .putting) (ap (map (stretchLine q k)) (s .ends .next))
-              (put-one (stretchLine q k v) (at + lineBytes * n) new new′ (s .text));
+              putting-more at old _ (can .room) (stretchLine slots q k v ∷ []) _ 1 (p .putting) (ap (map (stretchLine slots q k)) (s .ends .next))
+              (put-one (stretchLine slots q k v) (at + lineBytes * n) new new′ (s .text));
         }
       where
         v : Interval
@@ -86,7 +89,7 @@ module _ (q : ℕ) (counts : List ℕ) (slots k at : ℕ) (old : List ℕ) (can 
         last : from ≡ slots
         last = omega (arith, p .in-day)
 
-        none : map (stretchLine q k) (stretchesFrom counts slots k from) ≡ []
+        none : map (stretchLine slots q k) (stretchesFrom counts slots k from) ≡ []
         none = rw (last, stretchesFrom-end counts slots k)
 
 -- All blowers ----------------------------------------------------------------------

@@ -21,7 +21,7 @@ fn put_stretch(
 {
     let busy = stretches::is_busy(blower, counts[from]);
     let end = stretches::stretch_end(counts, slots, blower, from);
-    let state = energy::stretch_state(wake, from + 1, end, busy);
+    let state = energy::stretch_state(slots, wake, from + 1, end, busy);
     sheet::put_line(out, at, blower, (from + 1) as u32, end as u32, state);
     end
 }

@@ -55,12 +55,14 @@ fn put_plan(sheet: &Sheet, day: &Day, out: &mut [u8]) -> usize {
         let (mut first, mut before) = (1, 0);
         for run in counts.chunk_by(|a, b| (*a >= blower) == (*b >= blower)) {
             let length = run.len() as u32;
+            let last = first + length - 1;
+            let at_end = first == 1 || last as usize == sheet.slots;
             let state = match run[0] >= blower {
                 true => 2,
-                false if length >= sheet.wake => 0,
+                false if at_end || length >= sheet.wake => 0,
                 false => 1,
             };
-            lines.put([u32::from(blower), first, first + length - 1, state]);
+            lines.put([u32::from(blower), first, last, state]);
             stretches += 1;
             if state != 0 {
                 on += length;
