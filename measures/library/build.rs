@@ -1,5 +1,5 @@
-//! Links `libkiwimound.a`: that of the folder KIWIMOUND_LIB_DIR, or else the one that
-//! `rt staticlib kiwimound` writes in this repository.
+//! Links `libkiwimound.a` and `librecords.a`: those of the folder KIWIMOUND_LIB_DIR, or else
+//! those that `rt staticlib` writes in this repository.
 
 use std::path::PathBuf;
 use std::{env, process};
@@ -10,13 +10,15 @@ fn main() {
         Some(folder) => PathBuf::from(folder),
         None => here.join("../../target/staticlib"),
     };
-    let archive = folder.join("libkiwimound.a");
     println!("cargo:rerun-if-env-changed=KIWIMOUND_LIB_DIR");
-    println!("cargo:rerun-if-changed={}", archive.display());
-    if !archive.is_file() {
-        eprintln!("{} is not there: rt staticlib kiwimound", archive.display());
-        process::exit(1);
-    }
     println!("cargo:rustc-link-search=native={}", folder.display());
-    println!("cargo:rustc-link-lib=static=kiwimound");
+    for name in ["kiwimound", "records"] {
+        let archive = folder.join(format!("lib{name}.a"));
+        println!("cargo:rerun-if-changed={}", archive.display());
+        if !archive.is_file() {
+            eprintln!("{} is not there: rt staticlib {name}", archive.display());
+            process::exit(1);
+        }
+        println!("cargo:rustc-link-lib=static={name}");
+    }
 }

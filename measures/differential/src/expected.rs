@@ -1,38 +1,62 @@
-//! What document 01 asks of every call on a sheet, from the reference implementation.
+//! What document 01 asks of every call on a day, from the reference implementation.
 
-use reference::listing::{held_text, plan_text, PLACING_BUFFER, PLAN_BUFFER};
-use reference::method;
-use reference::sheet::{read, Refusal, Sheet, MOST_SLOTS};
+use crate::values::Values;
+use reference::listing::{held_text, plan_text, refusal_text, PLACING_BUFFER, PLAN_BUFFER};
+use reference::sheet::{read, write, Refusal, Sheet, LINE, MOST_SLOTS};
+use reference::{method, placing};
 
-/// A sheet with all that planning it gives. The reference plans it once.
+/// A day with all that planning it gives. The reference plans it once.
 pub struct Expected {
+    /// The sheet, where the day is lent as one or can be written as one.
     pub bytes: Vec<u8>,
     pub sheet: Result<Sheet, Refusal>,
     /// Number 0 or 12 of a well-formed sheet.
     pub number: u32,
-    pub listing: Vec<u8>,
+    /// What the program writes: a listing, or the line of a refusal.
+    pub output: Vec<u8>,
     pub placing: Vec<u8>,
     /// Each slot's count, of a planned sheet.
     pub counts: Option<Vec<u32>>,
 }
 
 impl Expected {
+    /// Of a day that is lent as a sheet.
     pub fn of(bytes: Vec<u8>) -> Self {
         let sheet = read(&bytes);
+        Expected::planned(bytes, sheet)
+    }
+
+    /// Of a day that is lent as records: that of the sheet that they make, or the refusal of
+    /// writing it.
+    pub fn of_records(values: &Values) -> Self {
+        let ([slots, blowers, wake, _], flat) = (values.head, values.whole());
+        let n = flat.len() / 4;
+        let mut bytes = vec![0; LINE * (n + 1)];
+        match write(slots, blowers, wake, n as u32, flat, &mut bytes) {
+            (0, _, _) => Expected::of(bytes),
+            (number, line, _) => Expected::planned(Vec::new(), Err(Refusal { number, line })),
+        }
+    }
+
+    fn planned(bytes: Vec<u8>, sheet: Result<Sheet, Refusal>) -> Self {
         let mut expected = Expected {
             bytes,
             sheet,
             number: 0,
-            listing: Vec::new(),
+            output: Vec::new(),
             placing: vec![0; PLACING_BUFFER],
             counts: None,
         };
-        let Ok(sheet) = &expected.sheet else {
-            return expected;
+        let sheet = match &expected.sheet {
+            Ok(sheet) => sheet,
+            Err(refusal) => {
+                expected.output = refusal_text(*refusal);
+                return expected;
+            }
         };
         match method::plan(sheet) {
             Ok(plan) => {
-                expected.listing = plan_text(&plan);
+                expected.output = plan_text(&plan);
                 for (i, row) in plan.placing.iter().enumerate() {
                     for (t, &fed) in row.iter().enumerate() {
                         expected.placing[i * MOST_SLOTS as usize + t] = u8::from(fed);
@@ -42,7 +66,7 @@ impl Expected {
             }
             Err(shown) => {
                 expected.number = 12;
-                expected.listing = held_text(sheet, &shown);
+                expected.output = held_text(sheet, &shown);
             }
         }
         expected
@@ -79,5 +103,21 @@ impl Expected {
             }
         }
         (0, 0, self.counts == other.counts)
+    }
+
+    /// Number, line and shortfall of the marked slots.
+    pub fn shortfall(&self, marks: &[u8]) -> (u32, u32, i32) {
+        match &self.sheet {
+            Ok(_) => placing::shortfall(&self.bytes, marks),
+            Err(refusal) => (refusal.number, refusal.line, 0),
+        }
+    }
+
+    /// Number, line and answer of the question under bounds.
+    pub fn bounds(&self, lows: &[u32], highs: &[u32]) -> (u32, u32, bool) {
+        match &self.sheet {
+            Ok(_) => placing::bounds(&self.bytes, lows, highs),
+            Err(refusal) => (refusal.number, refusal.line, false),
+        }
     }
 }

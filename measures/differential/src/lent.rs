@@ -37,7 +37,11 @@ impl Lent {
             && &self.memory[GUARD..end] == written
             && self.memory[..GUARD] == self.before[..GUARD]
             && self.memory[end..] == self.before[end..];
-        self.memory.copy_from_slice(&self.before);
+        // Where all else is kept, the written bytes alone need to be made as before.
+        match kept {
+            true => self.memory[GUARD..end].copy_from_slice(&self.before[GUARD..end]),
+            false => self.memory.copy_from_slice(&self.before),
+        }
         kept
     }
 }

@@ -1,9 +1,14 @@
-//! The static library against the reference implementation: every call, with buffers of
+//! The static libraries against the reference implementation: every call, with buffers of
 //! every length that matters, on many sheets of all kinds.
 
 mod calls;
 mod expected;
+mod form;
 mod lent;
+mod planning;
+mod questions;
+mod reading;
+mod values;
 
 use calls::Buffers;
 use expected::Expected;
@@ -14,18 +19,23 @@ use std::time::Instant;
 /// Where the sheet of the first difference is written.
 const DIFFERENCE: &str = "difference.sheet";
 
-/// Sheets by kind and by the number that planning gives.
+/// Sheets by kind and by the number that planning gives, and days that were made of changed
+/// values and lent as records alone.
 struct Tally {
     kinds: [[u64; 13]; KINDS.len()],
     full: [u64; 13],
+    changed: [u64; 13],
 }
 
 impl Tally {
     fn print(&self) {
         println!("{:<24}{:>9}   by number 0 to 9, and 12", "kind", "sheets");
-        let full = [("of all, 96 x 8 x 64", &self.full)];
+        let others = [
+            ("of all, 96 x 8 x 64", &self.full),
+            ("changed, as records", &self.changed),
+        ];
         let rows = KINDS.iter().map(|kind| kind.name).zip(&self.kinds);
-        for (name, row) in rows.chain(full) {
+        for (name, row) in rows.chain(others) {
             let cells = row.iter().enumerate();
             let cells = cells.filter(|(number, _)| !(10..12).contains(number));
             let text: String = cells.map(|(_, count)| format!("{count:>8}")).collect();
@@ -50,6 +60,7 @@ fn main() -> ExitCode {
     let mut tally = Tally {
         kinds: [[0; 13]; KINDS.len()],
         full: [0; 13],
+        changed: [0; 13],
     };
     let mut buffers = Buffers::new();
     let mut second = Expected::of(Vec::new());
@@ -57,13 +68,17 @@ fn main() -> ExitCode {
         let mut draws = draws_at(place);
         let kind = kind_at(place);
         let expected = Expected::of((KINDS[kind].make)(&mut draws));
-        if let Err(message) = calls::check(&expected, &second, &mut draws, &mut buffers) {
-            println!("sheet {place}, {}: {message}", KINDS[kind].name);
-            match std::fs::write(DIFFERENCE, &expected.bytes) {
-                Ok(()) => println!("the sheet is in {DIFFERENCE}"),
-                Err(error) => println!("the sheet can't be written: {error}"),
+        match calls::check(&expected, &second, &mut draws, &mut buffers) {
+            Ok(Some(changed)) => tally.changed[changed.outcome() as usize] += 1,
+            Ok(None) => {}
+            Err(message) => {
+                println!("sheet {place}, {}: {message}", KINDS[kind].name);
+                match std::fs::write(DIFFERENCE, &expected.bytes) {
+                    Ok(()) => println!("the sheet is in {DIFFERENCE}"),
+                    Err(error) => println!("the sheet can't be written: {error}"),
+                }
+                return ExitCode::FAILURE;
             }
-            return ExitCode::FAILURE;
         }
         let number = expected.outcome() as usize;
         tally.kinds[kind][number] += 1;

@@ -1,9 +1,11 @@
-//! The calls of the proved static library, over slices. A slice is handed over as a
+//! The calls of the proved static libraries, over slices. A slice is handed over as a
 //! pointer and a length.
 
 mod foreign;
+mod records;
 
 pub use foreign::{BoundsAnswer, Compared, Part, Planned, Reading, ShortfallAnswer, Written};
+pub use records::{Ration, Records};
 
 /// Plans a sheet, with a plan buffer lent.
 pub fn plan(sheet: &[u8], listing: &mut [u8]) -> Planned {
@@ -30,6 +32,12 @@ pub fn plan_both(sheet: &[u8], listing: &mut [u8], placing: &mut [u8]) -> Planne
 /// Plans a sheet with no buffer lent.
 pub fn plan_number(sheet: &[u8]) -> Planned {
     unsafe { foreign::kiwimound_plan_number(sheet.as_ptr(), sheet.len()) }
+}
+
+/// Writes what the program writes for a sheet.
+pub fn answer(sheet: &[u8], out: &mut [u8]) -> Planned {
+    let (buffer, size) = (out.as_mut_ptr(), out.len());
+    unsafe { foreign::kiwimound_answer(sheet.as_ptr(), sheet.len(), buffer, size) }
 }
 
 /// Compares the days of two sheets.
