@@ -4,7 +4,14 @@
 
 #include "kiwimound.h"
 
-/* The reading calls: read, find, write. `choice` picks the tanks asked for and the sizes lent. Gives the number of the reading. */
+struct refusal {
+    uint32_t number, line;
+};
+
+/* The first of the checks 3 to 9 that a head line's numbers and flat rations fail, or 0. */
+struct refusal refusal_of(const uint32_t head[4], const uint32_t *flat, size_t count);
+
+/* The reading calls: read, find, write, also from records. `choice` picks the tanks asked for and the sizes lent. Gives the number of the reading. */
 uint32_t check_reading(const uint8_t *sheet, size_t size, uint32_t choice);
 
 /* What planning came to. */
@@ -12,7 +19,11 @@ struct outcome {
     uint32_t number, energy, stretches, feeds, shown;
 };
 
-/* The planning calls, compare, shortfall and bounds. `choice` picks the sizes lent. */
+/* The planning calls, answer, compare, shortfall and bounds, and those on records. `choice` picks the sizes lent. */
 struct outcome check_planning(const uint8_t *sheet, size_t size, uint32_t choice);
+
+/* Planning and the questions on the rations of an accepted sheet as records, or on changed ones as `choice` says; with a plan buffer and a placing buffer of
+ * these sizes. */
+void check_records(const kiwimound_reading *sheet, uint32_t choice, size_t listing_size, size_t placing_size);
 
 #endif

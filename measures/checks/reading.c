@@ -9,10 +9,6 @@
 
 enum { LINE = KIWIMOUND_LINE_BYTES };
 
-struct refusal {
-    uint32_t number, line;
-};
-
 /* The four numbers of a line, if writing them gives the line again. */
 static bool numbers_of(const uint8_t *line, uint32_t numbers[4]) {
     char text[LINE + 1];
@@ -28,8 +24,7 @@ static bool numbers_of(const uint8_t *line, uint32_t numbers[4]) {
 
 static bool within(uint32_t low, uint32_t value, uint32_t high) { return low <= value && value <= high; }
 
-/* The checks 3 to 9 on a head line's numbers and flat rations. */
-static struct refusal refusal_of(const uint32_t head[4], const uint32_t *flat, size_t count) {
+struct refusal refusal_of(const uint32_t head[4], const uint32_t *flat, size_t count) {
     if (!within(1, head[0], 96)) return (struct refusal){3, 1};
     if (!within(1, head[1], 8)) return (struct refusal){4, 1};
     if (head[2] > 200) return (struct refusal){5, 1};
@@ -64,16 +59,23 @@ static void check_find(const uint8_t *sheet, size_t size, uint32_t tank, struct 
     if (part.start != start || part.length != (start ? LINE : 0)) fail("find gives another part");
 }
 
-/* Writes numbers to buffers too short, just long enough and longer. */
-static void check_write(const uint32_t head[4], const uint32_t *flat, size_t count, const uint8_t *sheet) {
+/* Writes numbers to buffers too short, just long enough and longer. As records, there are as many rations as the list has whole ones. */
+static void check_write(const uint32_t numbers[4], const uint32_t *flat, size_t count, const uint8_t *sheet, bool as_records) {
+    uint32_t head[4];
+    memcpy(head, numbers, sizeof head);
+    if (as_records) head[3] = (uint32_t)(count /= 4), count *= 4;
     struct refusal expected = refusal_of(head, flat, count);
     size_t least = KIWIMOUND_SHEET_BYTES(head[3] > 64 ? 64 : head[3]);
     size_t sizes[] = {0, least - 1, least, least + 30};
     for (size_t i = 0; i < 4; i++) {
         struct refusal now = expected.number == 0 && sizes[i] < least ? (struct refusal){10, 0} : expected;
-        const uint32_t *numbers = lend_numbers(NUMBERS, flat, count);
+        const uint32_t *list = lend_numbers(NUMBERS, flat, count);
         uint8_t *out = lend_buffer(OUT, sizes[i]);
-        kiwimound_written w = kiwimound_write(head[0], head[1], head[2], head[3], numbers, count, out, sizes[i]);
+        kiwimound_written w;
+        if (as_records)
+            w = kiwimound_write_rations(head[0], head[1], head[2], (const kiwimound_ration *)(const void *)list, head[3], out, sizes[i]);
+        else
+            w = kiwimound_write(head[0], head[1], head[2], head[3], list, count, out, sizes[i]);
         if (w.number != now.number || w.line != now.line || w.length != (now.number ? 0 : least)) fail("write answers otherwise");
         if (now.number == 0 && sheet && memcmp(out, sheet, least)) fail("write gives other bytes");
         take_back(OUT, w.length);
@@ -82,7 +84,7 @@ static void check_write(const uint32_t head[4], const uint32_t *flat, size_t cou
 }
 
 uint32_t check_reading(const uint8_t *bytes, size_t size, uint32_t choice) {
-    uint32_t head[4] = {0}, flat[256 + 2] = {0};
+    uint32_t head[4] = {0}, flat[256 + 12] = {0};
     struct refusal expected = first_refusal(bytes, size, head, flat);
     const uint8_t *sheet = lend_bytes(SHEET, bytes, size);
     kiwimound_reading r = kiwimound_read(sheet, size);
@@ -97,9 +99,11 @@ uint32_t check_reading(const uint8_t *bytes, size_t size, uint32_t choice) {
     check_find(sheet, size, choice, expected, head, flat);
     take_back(SHEET, size);
     size_t n = head[3] > 64 ? 64 : head[3];
-    check_write(head, flat, 4 * n, accepted ? bytes : NULL);
-    /* One number changed, and a list of another length. */
+    check_write(head, flat, 4 * n, accepted ? bytes : NULL, false);
+    check_write(head, flat, 4 * n, accepted ? bytes : NULL, true);
+    /* One number changed, and a list of another length; as records, also more than there can be. */
     flat[choice % 256] = choice >> 8 & 1 ? choice >> 16 : choice >> 26;
-    check_write(head, flat, 4 * n + choice % 7 % 3, NULL);
+    check_write(head, flat, 4 * n + choice % 7 % 3, NULL, false);
+    check_write(head, flat, choice % 5 ? 4 * n : 4 * (64 + choice % 3), NULL, true);
     return r.number;
 }

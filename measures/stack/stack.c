@@ -26,18 +26,41 @@ static void plan(void) { kiwimound_plan(sheet, size, listing, sizeof listing); }
 static void plan_placing(void) { kiwimound_plan_placing(sheet, size, placing, sizeof placing); }
 static void plan_both(void) { kiwimound_plan_both(sheet, size, listing, sizeof listing, placing, sizeof placing); }
 static void plan_number(void) { kiwimound_plan_number(sheet, size); }
+static void answer(void) { kiwimound_answer(sheet, size, listing, sizeof listing); }
 static void compare(void) { kiwimound_compare(sheet, size, sheet, size); }
 static void shortfall(void) { kiwimound_shortfall(sheet, size, marks, reading.slots); }
 static void bounds(void) { kiwimound_bounds(sheet, size, lows, reading.slots, highs, reading.slots); }
+
+/* A record is four numbers in a row, as they are read. */
+#define RECORDS reading.slots, reading.blowers, reading.wake, (const kiwimound_ration *)(const void *)reading.numbers, reading.rations
+static void write_rations(void) { kiwimound_write_rations(RECORDS, out, sizeof out); }
+static void plan_rations(void) { kiwimound_plan_rations(RECORDS, listing, sizeof listing); }
+static void plan_rations_both(void) { kiwimound_plan_rations_both(RECORDS, listing, sizeof listing, placing, sizeof placing); }
+static void shortfall_rations(void) { kiwimound_shortfall_rations(RECORDS, marks, reading.slots); }
+static void bounds_rations(void) { kiwimound_bounds_rations(RECORDS, lows, reading.slots, highs, reading.slots); }
 
 static struct {
     const char *name;
     void (*call)(void);
     size_t deepest;
 } calls[] = {
-    {"nothing", nothing, 0},         {"read", read_sheet, 0},           {"write", write_sheet, 0}, {"find", find, 0},
-    {"plan", plan, 0},               {"plan_placing", plan_placing, 0}, {"plan_both", plan_both, 0}, {"plan_number", plan_number, 0},
-    {"compare", compare, 0},         {"shortfall", shortfall, 0},       {"bounds", bounds, 0},
+    {"nothing", nothing, 0},
+    {"read", read_sheet, 0},
+    {"write", write_sheet, 0},
+    {"find", find, 0},
+    {"plan", plan, 0},
+    {"plan_placing", plan_placing, 0},
+    {"plan_both", plan_both, 0},
+    {"plan_number", plan_number, 0},
+    {"answer", answer, 0},
+    {"compare", compare, 0},
+    {"shortfall", shortfall, 0},
+    {"bounds", bounds, 0},
+    {"write_rations", write_rations, 0},
+    {"plan_rations", plan_rations, 0},
+    {"plan_rations_both", plan_rations_both, 0},
+    {"shortfall_rations", shortfall_rations, 0},
+    {"bounds_rations", bounds_rations, 0},
 };
 
 static uint8_t *top;
@@ -74,7 +97,7 @@ int main(void) {
     size_t deepest = 0;
     printf("stack in bytes, the deepest of %ld sheets (the thread itself: %zu)\n", sheets, calls[0].deepest);
     for (size_t i = 1; i < sizeof calls / sizeof *calls; i++) {
-        printf("%-14s%8zu\n", calls[i].name, calls[i].deepest);
+        printf("%-18s%8zu\n", calls[i].name, calls[i].deepest);
         if (calls[i].deepest > deepest) deepest = calls[i].deepest;
     }
     if (sheets == 0 || deepest >= LIMIT) {
