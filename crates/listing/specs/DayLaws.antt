@@ -10,7 +10,7 @@ use Rattle.common.specs.Lists.{count}
 use Rattle.sheet.specs.Sheet.{Job, Sheet}
 use Rattle.sheet.specs.RangeLaws.{JobsInRange, ValuesInRange}
 use Rattle.placing.specs.Schedules.{Schedule, Sound, volumeOf, load}
-use Rattle.placing.specs.Calls.{demandsOf, noLow, fullHigh}
+use Rattle.placing.specs.Demands.{demandsOf, noLow, fullHigh}
 use Rattle.placing.specs.AsFunctions.{Rows}
 use Rattle.placing.specs.FeasibleLaws.{feasible-sound, sound-feasible, sound-looser}
 use Rattle.placing.specs.DemandLaws.{length-demandsOf, windows-demandsOf}

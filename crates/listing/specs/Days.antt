@@ -7,8 +7,8 @@ use Prim.Native.Nat.{ℕ}
 use Prim.Native.String.{String}
 use lib.IntN.{ℤ, pos, negsuc}
 use Rattle.sheet.specs.Sheet.{sheetOf}
-use Rattle.placing.specs.Text.{text}
-use Rattle.placing.specs.Calls.{shortfallOf, boundsOf}
+use Rattle.questions.specs.Text.{text}
+use Rattle.questions.specs.Calls.{shortfallOf, boundsOf}
 use Rattle.listing.specs.Lines.{Line, line}
 use Rattle.listing.specs.Planning.{countsOf, output}
 use Rattle.listing.specs.ReadListing.{linesOf, headLine, stretchPart, feedPart}

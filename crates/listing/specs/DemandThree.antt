@@ -20,7 +20,7 @@ use Rattle.sheet.specs.WellFormedLaws.{wellFormed-faults}
 use Rattle.placing.specs.Slots.{Slots, has}
 use Rattle.placing.specs.Schedules.{Schedule, Sound, load, volumeOf}
 use Rattle.placing.specs.Shortfall.{forced, capacity, shortfall}
-use Rattle.placing.specs.Calls.{demandsOf, noLow, fullHigh}
+use Rattle.placing.specs.Demands.{demandsOf, noLow, fullHigh}
 use Rattle.placing.specs.Theorems as Placing
 use Rattle.placing.specs.DemandLaws.{windows-demandsOf}
 use Rattle.stretches.specs.Intervals.{Interval, intervals}

@@ -15,7 +15,7 @@ use Rattle.sheet.specs.RangeLaws.{JobsInRange, ValuesInRange}
 use Rattle.placing.specs.Slots.{Slots, sumOver}
 use Rattle.placing.specs.Schedules.{Demand, volumeOf}
 use Rattle.placing.specs.Shortfall.{forced, capacity}
-use Rattle.placing.specs.Calls.{demandsOf, fullHigh}
+use Rattle.placing.specs.Demands.{demandsOf, fullHigh}
 use Rattle.placing.specs.DemandLaws.{demandsOf-inRange}
 use Rattle.stretches.specs.Intervals.{Interval, size}
 use Rattle.energy.specs.Energy.{atEnd, state, starts, energy}

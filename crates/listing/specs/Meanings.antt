@@ -3,7 +3,7 @@
 use Rattle.sheet.specs.Field.{leading, columns, writeField}
 use Rattle.sheet.specs.Sheet.{writeLine}
 use Rattle.sheet.specs.Calls.{padded}
-use Rattle.placing.specs.Meanings.{answers}
+use Rattle.questions.specs.Meanings.{answers}
 use Rattle.stretches.specs.Method.{onRun, idleFor, busyFor, longest, idleRun, busyRun, settle, settleAll, loads}
 use Rattle.stretches.specs.Feedings.{prefer, cells, withCounts, chosen}
 use Rattle.stretches.specs.Intervals.{join, runs, intervals, size}

@@ -12,7 +12,7 @@ use Rattle.sheet.specs.Calls.{over}
 use Rattle.placing.specs.Slots.{Slots}
 use Rattle.placing.specs.Schedules.{Schedule, feasible}
 use Rattle.placing.specs.Shortfall.{forced, capacity, criticalSet}
-use Rattle.placing.specs.Calls.{demandsOf, noLow, fullHigh}
+use Rattle.placing.specs.Demands.{demandsOf, noLow, fullHigh}
 use Rattle.stretches.specs.Method.{dayBounds, loads}
 use Rattle.stretches.specs.Feedings.{chosen}
 use Rattle.listing.specs.declared.Planned.{Planned}

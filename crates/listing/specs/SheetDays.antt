@@ -26,7 +26,7 @@ use Rattle.placing.specs.Shortfall.{forced, capacity}
 use Rattle.placing.specs.Tabulate.{length-tab}
 use Rattle.placing.specs.Represents.{marksOf}
 use Rattle.placing.specs.AsFunctions.{fed}
-use Rattle.placing.specs.Calls.{demandsOf, noLow, fullHigh}
+use Rattle.placing.specs.Demands.{demandsOf, noLow, fullHigh}
 use Rattle.placing.specs.DemandLaws.{length-demandsOf}
 use Rattle.placing.specs.Rations.{Rations, demandsFrom}
 use Rattle.placing.specs.ReadLaws.{Read, read-accepted}

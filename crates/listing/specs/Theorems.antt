@@ -21,7 +21,7 @@ use Rattle.sheet.specs.CallLaws.{readingOf-accepted, faults-readingOf}
 use Rattle.sheet.specs.RangeLaws.{ValuesInRange}
 use Rattle.sheet.specs.WellFormedLaws.{wellFormed-faults}
 use Rattle.placing.specs.Schedules.{Schedule}
-use Rattle.placing.specs.Calls.{demandsOf}
+use Rattle.placing.specs.Demands.{demandsOf}
 use Rattle.placing.specs.ReadLaws.{refused-before}
 use Rattle.stretches.specs.Method.{dayBounds, settleAll}
 use Rattle.stretches.specs.FeedingLaws.{same-eq, same-self}

@@ -13,7 +13,7 @@ use Rattle.sheet.specs.Checks.{firstRefusal, faults}
 use Rattle.sheet.specs.Calls.{over}
 use Rattle.sheet.specs.RangeLaws.{ValuesInRange}
 use Rattle.placing.specs.Shortfall.{forced, capacity}
-use Rattle.placing.specs.Calls.{demandsOf, fullHigh}
+use Rattle.placing.specs.Demands.{demandsOf, fullHigh}
 use Rattle.placing.specs.CriticalLaws.{length-criticalSet}
 use Rattle.placing.specs.DemandLaws.{windows-demandsOf}
 use Rattle.energy.specs.Energy.{starts, energy}

@@ -13,7 +13,7 @@ use Rattle.sheet.specs.RangeLaws.{JobInRange, JobsInRange, ValuesInRange}
 use Rattle.sheet.specs.WellFormedLaws.{wellFormed-faults}
 use Rattle.placing.specs.Slots.{window}
 use Rattle.placing.specs.Schedules.{Demand, Windows, noDemand, windowOf, volumeOf}
-use Rattle.placing.specs.Calls.{demandOf, demandsOf}
+use Rattle.placing.specs.Demands.{demandOf, demandsOf}
 use Rattle.placing.specs.Tabulate.{getD-map-below}
 use Rattle.placing.specs.WindowLaws.{length-window, count-window}
 

@@ -3,10 +3,9 @@
 pub mod Slots
 pub mod Schedules
 pub mod Shortfall
-pub mod Calls
+pub mod Demands
 -- The theorems a reader looks for
 pub mod Theorems
-pub mod Text
 pub mod Meanings
 -- What the words hold, as the layers above see them
 pub mod Represents
@@ -25,22 +24,15 @@ pub mod Differences
 pub mod Tabulate
 pub mod ListLaws
 pub mod DemandLaws
-pub mod CallLaws
 -- What the functions within the crate require and ensure, and the steps of their loops
 pub mod Rations
 pub mod Words
-pub mod ShortfallParts
-pub mod BoundsParts
+pub mod FeasibilityParts
 pub mod RationLaws
 pub mod WordLaws
 pub mod ReadLaws
-pub mod EveryLaws
 pub mod FillLaws
-pub mod MarkSteps
-pub mod SignedSteps
 pub mod WindowSteps
-pub mod ShortfallSteps
-pub mod BoundsSteps
 pub mod StepLaws
 pub mod BeginLaws
 pub mod FeasibilitySteps

@@ -19,7 +19,7 @@ use Rattle.sheet.specs.CallLaws.{readingOf-accepted, faults-readingOf}
 use Rattle.sheet.specs.CheckSteps.{first-left, first-right}
 use Rattle.sheet.specs.ReadSteps.{length-padded}
 use Rattle.placing.specs.Schedules.{noDemand}
-use Rattle.placing.specs.Calls.{demandOf, demandsOf}
+use Rattle.placing.specs.Demands.{demandOf, demandsOf}
 use Rattle.placing.specs.Rations.{demandAt, demandsFrom, Rations}
 use Rattle.placing.specs.Tabulate.{tab-unique}
 use Rattle.placing.specs.DemandLaws.{noJob, length-demandsOf, demandsOf-at, jobsInRange-at}

@@ -8,7 +8,7 @@ ghost use Prim.Native.Nat.{_≤_};
 ghost use lib.ListN.{length, take, replicate};
 ghost use Rattle.placing.specs.Schedules.{Demand, feasible};
 ghost use Rattle.placing.specs.Rations.{demandsFrom};
-ghost use Rattle.placing.specs.BoundsParts.{CanAsk};
+ghost use Rattle.placing.specs.FeasibilityParts.{CanAsk};
 ghost use Rattle.placing.specs.Represents.{Represents};
 ghost use Rattle.placing.specs.FeasibilitySteps.{LowDay, LowsRaised};
 

@@ -6,7 +6,7 @@ fn ask(count: u32, bounds: &[u32], sheet: &[u8]) {
     if bounds.len() < lows {
         return;
     }
-    let r = placing::bounds(sheet, &bounds[0..lows], &bounds[lows..]);
+    let r = questions::bounds(sheet, &bounds[0..lows], &bounds[lows..]);
     io::write_all(1, b"B");
     cases::word(r.number);
     cases::word(r.line);

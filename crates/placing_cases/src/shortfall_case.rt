@@ -1,6 +1,6 @@
 // The shortfall of marked slots, a byte for each mark: `S number line shortfall`.
 pub fn answer(marks: &[u8], sheet: &[u8]) {
-    let r = placing::shortfall(sheet, marks);
+    let r = questions::shortfall(sheet, marks);
     io::write_all(1, b"S");
     cases::word(r.number);
     cases::word(r.line);

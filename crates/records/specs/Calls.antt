@@ -10,9 +10,9 @@ use Rattle.sheet.specs.declared.Refusal.{Refusal}
 use Rattle.sheet.specs.Limits.{lineBytes}
 use Rattle.sheet.specs.Sheet.{Sheet}
 use Rattle.sheet.specs.Checks.{fault, firstRefusal}
-use Rattle.placing.specs.declared.ShortfallAnswer.{ShortfallAnswer}
-use Rattle.placing.specs.declared.BoundsAnswer.{BoundsAnswer}
-use Rattle.placing.specs.Calls.{marksFault, sheetShortfall, boundsFault, sheetFeasible}
+use Rattle.questions.specs.declared.ShortfallAnswer.{ShortfallAnswer}
+use Rattle.questions.specs.declared.BoundsAnswer.{BoundsAnswer}
+use Rattle.questions.specs.Calls.{marksFault, sheetShortfall, boundsFault, sheetFeasible}
 use Rattle.listing.specs.Planning.{heldFaults}
 use Rattle.records.specs.Records.{recordFaults}
 

@@ -9,7 +9,7 @@ use borrow.Author.Tests.{ne-eqb}
 use Rattle.sheet.specs.declared.Refusal.{Refusal}
 use Rattle.sheet.specs.Sheet.{Sheet}
 use Rattle.sheet.specs.Checks.{fault}
-use Rattle.placing.specs.Calls.{marksFault, marksRefusal, sheetShortfall, shortfallOf, boundsFault, boundsRefusal, sheetFeasible, boundsOf}
+use Rattle.questions.specs.Calls.{marksFault, marksRefusal, sheetShortfall, shortfallOf, boundsFault, boundsRefusal, sheetFeasible, boundsOf}
 use Rattle.records.specs.declared.Ration.{Ration}
 use Rattle.records.specs.declared.Text.{Text}
 use Rattle.records.specs.Records.{recordSheet}

@@ -3,7 +3,7 @@ use crate::Flat;
 use crate::Ration;
 use crate::flats;
 use crate::texts;
-use placing::BoundsAnswer;
+use questions::BoundsAnswer;
 ghost use mathlib.Core.Path.{_≡_};
 ghost use Rattle.records.specs.Records.{recordSheet};
 ghost use Rattle.records.specs.Calls.{boundsOfSheet};
@@ -30,10 +30,10 @@ pub fn bounds_flat(
     }
     let end = text.length;
     let bytes = text.bytes;
-    placing::bounds(&bytes[..end], lows, highs)
+    questions::bounds(&bytes[..end], lows, highs)
 }
 
-// The bounds question on the day of a record for each ration: what `placing::bounds` answers to the sheet that these records make.
+// The bounds question on the day of a record for each ration: what `questions::bounds` answers to the sheet that these records make.
 #[no_mangle]
 pub extern "C" fn kiwimound_bounds_rations(
     slots: u32,

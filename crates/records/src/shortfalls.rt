@@ -3,7 +3,7 @@ use crate::Flat;
 use crate::Ration;
 use crate::flats;
 use crate::texts;
-use placing::ShortfallAnswer;
+use questions::ShortfallAnswer;
 ghost use mathlib.Core.Path.{_≡_};
 ghost use Rattle.records.specs.Records.{recordSheet};
 ghost use Rattle.records.specs.Calls.{shortfallOfSheet};
@@ -29,10 +29,10 @@ pub fn shortfall_flat(
     }
     let end = text.length;
     let bytes = text.bytes;
-    placing::shortfall(&bytes[..end], marks)
+    questions::shortfall(&bytes[..end], marks)
 }
 
-// The shortfall of the marked slots of the day of a record for each ration: what `placing::shortfall` answers to the sheet that these records make.
+// The shortfall of the marked slots of the day of a record for each ration: what `questions::shortfall` answers to the sheet that these records make.
 #[no_mangle]
 pub extern "C" fn kiwimound_shortfall_rations(
     slots: u32,

@@ -37,7 +37,7 @@ use denote.Triple.Walked.{says, Stays, stay-none, stay-none-slice, walkOf, goes-
 use denote.Exit.{yes}
 use Rattle.records.specs.Calls.{boundsOfSheet}
 use Rattle.records.specs.QuestionSteps.{bounds-records}
-use Rattle.placing.specs.declared.BoundsAnswer.{BoundsAnswer}
+use Rattle.questions.specs.declared.BoundsAnswer.{BoundsAnswer}
 use Rattle.records.specs.Flat.{flatOf, flatSheet}
 use Rattle.records.specs.FlatLaws.{isFlat-flatOf}
 use Rattle.records.specs.declared.Ration.{Ration}
@@ -46,8 +46,8 @@ use Rattle.records.proofs.Flattened.{Flatten, OwnRecords, flattens}
 use Rattle.records.proofs.Ration as R
 use Rattle.records.proofs.Flat as F
 use Rattle.records.proofs.Flat.Laws as F′
-use Rattle.placing.proofs.BoundsAnswer as T
-use Rattle.placing.proofs.BoundsAnswer.Laws as T′
+use Rattle.questions.proofs.BoundsAnswer as T
+use Rattle.questions.proofs.BoundsAnswer.Laws as T′
 use Rattle.records.proofs.flats.flatten.Symbol as flatten-def
 use Rattle.records.proofs.flats.flatten.Symbol.{name as #flatten}
 use Rattle.records.proofs.flats.flatten.Met as flatten-thm

@@ -1,0 +1,65 @@
+-- What the calls' answers say: the range of a shortfall, and that yes stands for a sound placing. Assumes nothing.
+use mathlib.Core.Path.{_≡_, refl, _∙_}
+use mathlib.Core.Logic.{_↔_}
+use mathlib.Core.Bool.{Bool, true, false, not, cond}
+use mathlib.Core.List.{List, []}
+use Prim.Native.Nat.{ℕ, _≤_}
+use native.Mathlib.Omega.{arith}
+use lib.Dec.{eqb}
+use lib.IntN.{pos, negsuc}
+use lib.ListN.{length, length-replicate, getD-replicate}
+use lib.Signed.{_≤ℤ_, leZ-yes}
+use borrow.Author.Tests.{eqb-true, eq-eqb, not-false}
+use Rattle.sheet.specs.Sheet.{sheetOf}
+use Rattle.sheet.specs.Checks.{fault, firstRefusal, faults}
+use Rattle.common.specs.Tests.{or-false}
+use Rattle.sheet.specs.FaultLaws.{numbered-append, numbered-faults, numbered-fault, append-nil-parts, false-fault}
+use Rattle.placing.specs.Schedules.{Schedule, Sound}
+use Rattle.placing.specs.Demands.{demandsOf, fullHigh}
+use Rattle.questions.specs.Calls.{marked, marksFault, marksRefusal, sheetShortfall, shortfallOf, boundsFault, boundsRefusal, cutHighs, sheetFeasible, boundsOf}
+use Rattle.placing.specs.Theorems.{feasible-iff-sound, shortfall-of-day}
+use Rattle.placing.specs.DemandLaws.{accepted-inRange, accepted-blowers, windows-demandsOf}
+use Rattle.questions.specs.MarkSteps.{length-marked}
+use Rattle.questions.specs.BoundsSteps.{length-cutHighs}
+
+-- shortfall -------------------------------------------------------------------
+
+-- number 0 stands for a sheet without a fault and one mark for each slot
+unrefused : (b marks : List ℕ) → marksRefusal b marks .number ≡ 0 → (faults b ≡ []) × (length marks ≡ sheetOf b .slots)
+unfolding marksRefusal marksFault
+unrefused b marks z =
+    let m = marksFault (sheetOf b .slots) marks in
+    let h = append-nil-parts (faults b) (fault 11 0 m)
+    (numbered-append (faults b) (fault 11 0 m) (numbered-faults b) (numbered-fault 11 0 m (omega arith)) z) in
+    let l = or-false (not (eqb (length marks) (sheetOf b .slots))) _ (false-fault 11 0 m (h .1)) .0 in
+    (h .0, eqb-true (length marks) (sheetOf b .slots) (not-false _ l))
+
+sheetShortfall-range : (b marks : List ℕ) → faults b ≡ [] → length marks ≡ sheetOf b .slots
+    → (negsuc 767 ≤ℤ sheetShortfall (sheetOf b) marks) × (sheetShortfall (sheetOf b) marks ≤ℤ pos 6144)
+unfolding sheetShortfall fullHigh
+sheetShortfall-range b marks e l =
+    let r = accepted-inRange b e in
+    shortfall-of-day (r .windows) (fullHigh (sheetOf b)) (length-replicate (sheetOf b .slots) (sheetOf b .blowers)) (r .few) (r .small) (r .short)
+    (λ t m. omega (arith, getD-replicate (sheetOf b .slots) t (sheetOf b .blowers) 0 m, accepted-blowers b e))
+    (marked marks) (length-marked marks ∙ l)
+
+-- whatever is lent, the shortfall answered is from −768 to 6,144
+pub shortfallOf-range : (b marks : List ℕ) → (negsuc 767 ≤ℤ shortfallOf b marks .shortfall) × (shortfallOf b marks .shortfall ≤ℤ pos 6144)
+unfolding shortfallOf
+shortfallOf-range b marks = go (eqb (marksRefusal b marks .number) 0) refl
+  where
+    go : (t : Bool) → eqb (marksRefusal b marks .number) 0 ≡ t
+        → (negsuc 767 ≤ℤ cond t (sheetShortfall (sheetOf b) marks) (pos 0)) × (cond t (sheetShortfall (sheetOf b) marks) (pos 0) ≤ℤ pos 6144)
+    go true e = let h = unrefused b marks (eqb-true (marksRefusal b marks .number) 0 e) in sheetShortfall-range b marks (h .0) (h .1)
+    go false e = (leZ-yes tt, leZ-yes tt)
+
+-- bounds ----------------------------------------------------------------------
+
+-- of a sheet without a fault and lists that are D long, yes exactly where a sound placing exists
+pub bounds-iff-sound : (b lows highs : List ℕ) → faults b ≡ [] → length lows ≡ sheetOf b .slots → length highs ≡ sheetOf b .slots
+    → (boundsOf b lows highs .yes ≡ true)
+    ↔ ((p : Schedule) × Sound (sheetOf b .slots) (demandsOf (sheetOf b)) lows (cutHighs (sheetOf b .blowers) highs) p)
+unfolding boundsOf boundsRefusal boundsFault sheetFeasible firstRefusal
+bounds-iff-sound b lows highs e l h =
+    rw (e, eq-eqb (length lows) (sheetOf b .slots) l, eq-eqb (length highs) (sheetOf b .slots) h)
+    (feasible-iff-sound (windows-demandsOf (sheetOf b)) lows (cutHighs (sheetOf b .blowers) highs) l (length-cutHighs (sheetOf b .blowers) highs ∙ h))

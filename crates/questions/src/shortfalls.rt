@@ -1,0 +1,78 @@
+// The shortfall of a set of slots: what is forced into it, less its capacity.
+use crate::ShortfallAnswer;
+use crate::marks;
+ghost use mathlib.Core.Path.{_≡_};
+ghost use Prim.Native.Nat.{_-_, _*_, _≤_, _<_};
+ghost use lib.ListN.{length};
+ghost use lib.IntN.{subℕ};
+ghost use Rattle.sheet.specs.Limits.{maxSlots, maxBlowers, maxRations};
+ghost use Rattle.placing.specs.Slots.{window, outside};
+ghost use Rattle.placing.specs.Shortfall.{forced};
+ghost use Rattle.placing.specs.Rations.{demandsFrom, Rations};
+ghost use Rattle.questions.specs.Calls.{marked, shortfallOf};
+ghost use Rattle.questions.specs.ShortfallParts.{CanForce};
+
+// What one ration is forced to take: the larger of 0 and its volume less the slots of its window that are not marked.
+fn forced_of(marks: &[u8], release: u32, deadline: u32, volume: u32) -> u32
+    requires { ⌜ CanForce (now marks) release deadline ⌝ }
+    ensures { λ r. ⌜ r ≡ volume - outside (window (length (now (marks .entry))) release deadline) (marked (now (marks .entry))) ⌝ }
+{
+    let free = marks::unmarked_slots(marks, release as usize, deadline as usize);
+    if volume < free {
+        return 0;
+    }
+    volume - free
+}
+
+// forced(Q): the sum over n rations. It costs a walk over each ration's window.
+fn forced(marks: &[u8], n: usize, numbers: &[u32; 256]) -> u32
+    requires { ⌜ Rations (length (now marks)) n (now numbers) ⌝ }
+    ensures { λ r. ⌜ r ≡ forced (demandsFrom (length (now (marks .entry))) n (now (numbers .entry))) (marked (now (marks .entry))) ⌝ }
+{
+    let mut sum = 0;
+    let mut j = 0;
+    while j < n {
+        let at = 4 * j;
+        sum += forced_of(marks, numbers[at + 1], numbers[at + 2], numbers[at + 3]);
+        j += 1;
+    }
+    sum
+}
+
+// a − b, of numbers that a shortfall is made of.
+fn difference(a: u32, b: u32) -> i32
+    requires { ⌜ (a ≤ maxRations * maxSlots) × (b ≤ maxSlots * maxBlowers) ⌝ }
+    ensures { λ r. ⌜ r ≡ subℕ a b ⌝ }
+{
+    a as i32 - b as i32
+}
+
+// The shortfall of the marked slots of a sheet's day, high being the blowers in every slot: number 0 and forced minus capacity; or the number and
+// the line of the first refusal and 0. Nothing lent is changed.
+pub fn shortfall(b: &[u8], marks: &[u8]) -> ShortfallAnswer
+    ensures { λ r. ⌜ r ≡ shortfallOf (now (b .entry)) (now (marks .entry)) ⌝ }
+{
+    let sheet = sheet::read(b);
+    if sheet.number != 0 {
+        return ShortfallAnswer {
+            number: sheet.number,
+            line: sheet.line,
+            shortfall: 0,
+        };
+    }
+    if marks::is_faulty(sheet.slots as usize, marks) {
+        return ShortfallAnswer {
+            number: 11,
+            line: 0,
+            shortfall: 0,
+        };
+    }
+    let numbers = sheet.numbers;
+    let f = forced(marks, sheet.rations as usize, &numbers);
+    let capacity = marks::marked_slots(marks) * sheet.blowers;
+    ShortfallAnswer {
+        number: 0,
+        line: 0,
+        shortfall: difference(f, capacity),
+    }
+}
