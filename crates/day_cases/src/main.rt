@@ -1,18 +1,18 @@
-// Plans a stream of sheets on standard input by the crate `listing`, for comparison with the plans of a second implementation. The payload is a sheet.
+// Plans a stream of sheets on standard input by the crate `planning`, for comparison with the plans of a second implementation. The payload is a sheet.
 //
 // Operation T writes what the program writes for the sheet, as it is.
 // Operation O writes of the same `O number line length` and the digest of the whole lent buffer.
 // Operation D plans the sheet, both buffers lent: `D number line length`, the digest of the listing and that of the whole placing buffer.
 fn write_output(sheet: &[u8]) {
     let mut room = [0u8; 32282];
-    let r = listing::answer(sheet, &mut room);
+    let r = planning::answer(sheet, &mut room);
     io::write_all(1, cases::first_part(&room, r.length));
 }
 
 fn digest_output(sheet: &[u8]) {
     let mut room = [0u8; 32282];
     cases::fill(&mut room);
-    let r = listing::answer(sheet, &mut room);
+    let r = planning::answer(sheet, &mut room);
     io::write_all(1, b"O");
     cases::word(r.number);
     cases::word(r.line);
@@ -26,7 +26,7 @@ fn plan(sheet: &[u8]) {
     let mut grid = [0u8; 6144];
     cases::fill(&mut room);
     cases::fill(&mut grid);
-    let r = listing::plan_both(sheet, &mut room, &mut grid);
+    let r = planning::plan_both(sheet, &mut room, &mut grid);
     io::write_all(1, b"D");
     cases::word(r.number);
     cases::word(r.line);

@@ -16,7 +16,7 @@ use Rattle.sheet.specs.Checks.{firstRefusal, faults}
 use Rattle.sheet.specs.Calls.{accepted, refused, readingOf, lineOf, lookUp}
 use Rattle.sheet.specs.CallLaws.{readingOf-accepted, faults-readingOf}
 use Rattle.listing.specs.Inputs.{tankAt, tanksOf}
-use Rattle.listing.specs.InputLaws.{tanksOf-numbersOf}
+use Rattle.planning.specs.InputLaws.{tanksOf-numbersOf}
 use Rattle.kiwimound.specs.declared.Part.{Part}
 use Rattle.kiwimound.specs.Places.{nowhere, placeIn, placeOf}
 

@@ -1,9 +1,9 @@
-// The planning calls of `listing`.
-use listing::Planned;
+// The calls of `planning`.
+use planning::Planned;
 ghost use mathlib.Core.Path.{_≡_};
 ghost use mathlib.Core.Bool.{false, _||_};
 ghost use Rattle.sheet.specs.Sheet.{sheetOf};
-ghost use Rattle.listing.specs.Planning.{planRefusal, shortPlan, shortGrid, listedAnswer, unlistedAnswer, listingAfter, gridAfter, outputAnswer, outputAfter};
+ghost use Rattle.planning.specs.Planning.{planRefusal, shortPlan, shortGrid, listedAnswer, unlistedAnswer, listingAfter, gridAfter, outputAnswer, outputAfter};
 
 // Plans a sheet, with a plan buffer lent.
 #[no_mangle]
@@ -11,7 +11,7 @@ pub extern "C" fn kiwimound_plan(b: &[u8], listing: &mut [u8]) -> Planned
     ensures { λ r. ⌜ r ≡ listedAnswer (planRefusal (now (b .entry)) (shortPlan (now (listing .entry)))) (sheetOf (now (b .entry))) ⌝ }
     ensures { λ _. ⌜ now (listing .exit) ≡ listingAfter (planRefusal (now (b .entry)) (shortPlan (now (listing .entry)))) (sheetOf (now (b .entry))) (now (listing .entry)) ⌝ }
 {
-    listing::plan(b, listing)
+    planning::plan(b, listing)
 }
 
 // Plans a sheet, with a placing buffer lent.
@@ -20,7 +20,7 @@ pub extern "C" fn kiwimound_plan_placing(b: &[u8], placing: &mut [u8]) -> Planne
     ensures { λ r. ⌜ r ≡ unlistedAnswer (planRefusal (now (b .entry)) (shortGrid (now (placing .entry)))) ⌝ }
     ensures { λ _. ⌜ now (placing .exit) ≡ gridAfter (planRefusal (now (b .entry)) (shortGrid (now (placing .entry)))) (sheetOf (now (b .entry))) (now (placing .entry)) ⌝ }
 {
-    listing::plan_placing(b, placing)
+    planning::plan_placing(b, placing)
 }
 
 // Plans a sheet, with both buffers lent.
@@ -30,7 +30,7 @@ pub extern "C" fn kiwimound_plan_both(b: &[u8], listing: &mut [u8], placing: &mu
     ensures { λ _. ⌜ now (listing .exit) ≡ listingAfter (planRefusal (now (b .entry)) (shortPlan (now (listing .entry)) || shortGrid (now (placing .entry)))) (sheetOf (now (b .entry))) (now (listing .entry)) ⌝ }
     ensures { λ _. ⌜ now (placing .exit) ≡ gridAfter (planRefusal (now (b .entry)) (shortPlan (now (listing .entry)) || shortGrid (now (placing .entry)))) (sheetOf (now (b .entry))) (now (placing .entry)) ⌝ }
 {
-    listing::plan_both(b, listing, placing)
+    planning::plan_both(b, listing, placing)
 }
 
 // Plans a sheet with no buffer lent.
@@ -38,7 +38,7 @@ pub extern "C" fn kiwimound_plan_both(b: &[u8], listing: &mut [u8], placing: &mu
 pub extern "C" fn kiwimound_plan_number(b: &[u8]) -> Planned
     ensures { λ r. ⌜ r ≡ unlistedAnswer (planRefusal (now (b .entry)) false) ⌝ }
 {
-    listing::plan_number(b)
+    planning::plan_number(b)
 }
 
 // Writes what the program writes for a sheet: a listing, or the line of any other refusal.
@@ -47,5 +47,5 @@ pub extern "C" fn kiwimound_answer(b: &[u8], out: &mut [u8]) -> Planned
     ensures { λ r. ⌜ r ≡ outputAnswer (now (b .entry)) (shortPlan (now (out .entry))) ⌝ }
     ensures { λ _. ⌜ now (out .exit) ≡ outputAfter (now (b .entry)) (shortPlan (now (out .entry))) (now (out .entry)) ⌝ }
 {
-    listing::answer(b, out)
+    planning::answer(b, out)
 }

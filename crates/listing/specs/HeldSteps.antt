@@ -19,7 +19,7 @@ use Rattle.placing.specs.Slots.{Slots}
 use Rattle.listing.specs.Sizes.{wordBytes, planBytes}
 use Rattle.listing.specs.Lines.{Line, line, membersFrom, memberLines, heldLines}
 use Rattle.listing.specs.Text.{writeLines, heldWord, heldText}
-use Rattle.listing.specs.SlotSetLaws.{count-le}
+use Rattle.listing.specs.LengthLaws.{count-le}
 use Rattle.listing.specs.Inputs.{setOf}
 use Rattle.listing.specs.Putting.{Put, Putting, Room, putting-begin, putting-more, putting-room, putting-end, put-one, putAt-nothing, length-writeLines}
 use Rattle.listing.specs.Opening.{Written, listing-written, listing-length}

@@ -4,7 +4,7 @@ use crate::answers;
 fn plan(sheet: &[u8], buffer: &mut [u8], grid: &mut [u8]) {
     cases::fill(buffer);
     cases::fill(grid);
-    let r = listing::plan_both(sheet, buffer, grid);
+    let r = planning::plan_both(sheet, buffer, grid);
     answers::write_planned(b"B", r.number, r.line, r.length);
     io::write_all(1, b"D");
     cases::word(cases::digest(buffer));

@@ -3,7 +3,7 @@ use crate::answers;
 
 fn plan(sheet: &[u8], buffer: &mut [u8]) {
     cases::fill(buffer);
-    let r = listing::plan_placing(sheet, buffer);
+    let r = planning::plan_placing(sheet, buffer);
     answers::write_planned(b"G", r.number, r.line, r.length);
     answers::write_digest(buffer);
 }

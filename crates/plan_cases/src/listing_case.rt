@@ -3,7 +3,7 @@ use crate::answers;
 
 fn plan(sheet: &[u8], buffer: &mut [u8]) {
     cases::fill(buffer);
-    let r = listing::plan(sheet, buffer);
+    let r = planning::plan(sheet, buffer);
     answers::write_planned(b"P", r.number, r.line, r.length);
     answers::write_digest(buffer);
 }

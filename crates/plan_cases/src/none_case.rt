@@ -2,6 +2,6 @@
 use crate::answers;
 
 pub fn answer(sheet: &[u8]) {
-    let r = listing::plan_number(sheet);
+    let r = planning::plan_number(sheet);
     answers::write_planned(b"N", r.number, r.line, r.length);
 }

@@ -4,7 +4,7 @@ fn main() {
     let mut input = io::large_buffer();
     let count = io::read_full(0, &mut input);
     let mut out = [0u8; 32282];
-    let answer = listing::answer(&input[0..count], &mut out);
+    let answer = planning::answer(&input[0..count], &mut out);
     let length = answer.length;
     io::write_all(1, &out[0..length]);
 }

@@ -13,7 +13,7 @@ use Rattle.sheet.specs.Checks.{fault, firstRefusal}
 use Rattle.questions.specs.declared.ShortfallAnswer.{ShortfallAnswer}
 use Rattle.questions.specs.declared.BoundsAnswer.{BoundsAnswer}
 use Rattle.questions.specs.Calls.{marksFault, sheetShortfall, boundsFault, sheetFeasible}
-use Rattle.listing.specs.Planning.{heldFaults}
+use Rattle.planning.specs.Planning.{heldFaults}
 use Rattle.records.specs.Records.{recordFaults}
 
 -- writing: 3 to 9, then 10, a buffer that is too short for the sheet

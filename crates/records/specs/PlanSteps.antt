@@ -8,11 +8,11 @@ use lib.ListN.{length, take}
 use Rattle.sheet.specs.declared.Refusal.{Refusal}
 use Rattle.sheet.specs.Sheet.{Sheet, sheetOf}
 use Rattle.sheet.specs.Checks.{fault, firstRefusal}
-use Rattle.listing.specs.declared.Planned.{Planned}
-use Rattle.listing.specs.Planning.{planRefusal, heldFaults, writes, listedAnswer, listingAfter, gridAfter}
-use Rattle.listing.specs.NumberLaws.{of-values, silent-read}
-use Rattle.listing.specs.Refusals.{listed-silent, listing-silent, grid-silent}
-use Rattle.listing.specs.CallAnswers.{Listed}
+use Rattle.planning.specs.declared.Planned.{Planned}
+use Rattle.planning.specs.Planning.{planRefusal, heldFaults, writes, listedAnswer, listingAfter, gridAfter}
+use Rattle.planning.specs.NumberLaws.{of-values, silent-read}
+use Rattle.planning.specs.Refusals.{listed-silent, listing-silent, grid-silent}
+use Rattle.planning.specs.CallAnswers.{Listed}
 use Rattle.records.specs.declared.Ration.{Ration}
 use Rattle.records.specs.declared.Text.{Text}
 use Rattle.records.specs.Records.{recordFaults, recordSheet, takenMost}

@@ -4,15 +4,15 @@
 // what the call of the layer below answers to the sheet that these records make (specs/Records.antt, specs/Calls.antt); the checks 1 and 2, which are about a
 // sheet's bytes, have nothing to look at.
 mod flats;
-mod planning;
-mod planning_both;
+mod plans;
+mod plans_both;
 mod question;
 mod shortfalls;
 mod texts;
 mod writing;
 
-pub use planning::kiwimound_plan_rations;
-pub use planning_both::kiwimound_plan_rations_both;
+pub use plans::kiwimound_plan_rations;
+pub use plans_both::kiwimound_plan_rations_both;
 pub use question::kiwimound_bounds_rations;
 pub use shortfalls::kiwimound_shortfall_rations;
 pub use writing::kiwimound_write_rations;

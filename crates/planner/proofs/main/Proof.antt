@@ -3,7 +3,7 @@ use mathlib.Core.Path.{sym, subst}
 use Prim.Native.Nat.{_≤_}
 use native.Mathlib.Omega.{arith}
 use Rattle.listing.specs.Sizes.{planBytes}
-use Rattle.listing.specs.OutputLaws.{length-outputAnswer}
+use Rattle.planning.specs.OutputLaws.{length-outputAnswer}
 use borrow.Author.Needs.{needs}
 use Rattle.planner.proofs.main.Statement.{statement}
 use Rattle.planner.proofs.main.Tie as tie

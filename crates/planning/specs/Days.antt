@@ -1,0 +1,179 @@
+-- The days of 'Days at the edge' as one table: a question about a sheet's text, beside what document 01 says, and request 101 where it changes that. `answer` gives the answer of the definitions;
+-- a plan's numbers are read off the program's whole output. Assumes nothing.
+use mathlib.Core.Path.{_≡_, refl}
+use mathlib.Core.Bool.{Bool, false}
+use mathlib.Core.List.{List, [], _∷_, map}
+use Prim.Native.Nat.{ℕ}
+use Prim.Native.String.{String}
+use lib.IntN.{ℤ, pos, negsuc}
+use Rattle.sheet.specs.Sheet.{sheetOf}
+use Rattle.questions.specs.Text.{text}
+use Rattle.questions.specs.Calls.{shortfallOf, boundsOf}
+use Rattle.listing.specs.Lines.{Line, line}
+use Rattle.planning.specs.Planning.{countsOf, output}
+use Rattle.planning.specs.ReadListing.{linesOf, headLine, stretchPart, feedPart}
+use Rattle.planning.specs.Meanings.{listings}
+
+-- Questions and answers -------------------------------------------------------------
+
+-- a sheet, as its lines of text
+abbrev Sheet : Type 0
+Sheet = List String
+
+pub data Question : Type 0 where
+  -- the program's whole output
+  outputFor : Sheet → Question
+  -- the count of each slot
+  countsFor : Sheet → Question
+  energyFor : Sheet → Question
+  startsFor : Sheet → Question
+  stretchesFor : Sheet → Question
+  feedingsFor : Sheet → Question
+  -- the shortfall of the marked slots
+  shortfallFor : Sheet → (marks : List ℕ) → Question
+  -- the bounds question
+  boundsFor : Sheet → (lows highs : List ℕ) → Question
+
+pub data Answer : Type 0 where
+  bytes : List ℕ → Answer
+  numbers : List ℕ → Answer
+  number : ℕ → Answer
+  lines : List Line → Answer
+  -- number, line, and the shortfall or yes
+  signed : ℕ → ℕ → ℤ → Answer
+  isYes : ℕ → ℕ → Bool → Answer
+
+-- the lines of the output
+abbrev outputLines : Sheet → List Line
+outputLines s = linesOf (output (text s))
+
+-- what the definitions answer
+abbrev pub answer : Question → Answer
+answer (outputFor s) = bytes (output (text s))
+answer (countsFor s) = numbers (countsOf (sheetOf (text s)))
+answer (energyFor s) = number (headLine (outputLines s) .a)
+answer (startsFor s) = number (headLine (outputLines s) .b)
+answer (stretchesFor s) = lines (stretchPart (outputLines s))
+answer (feedingsFor s) = lines (feedPart (outputLines s))
+answer (shortfallFor s marks) = let r = shortfallOf (text s) marks in signed (r .number) (r .line) (r .shortfall)
+answer (boundsFor s lows highs) = let r = boundsOf (text s) lows highs in isYes (r .number) (r .line) (r .yes)
+
+-- A row: the question, and the answer that the paper states.
+pub record Day : Type 0 where
+  pub asked : Question
+  pub stated : Answer
+
+abbrev day : Question → Answer → Day
+day q a = record { asked = q; stated = a }
+
+-- the statement about a table: the definitions answer each question as stated
+abbrev pub AsStated : List Day → Type 0
+AsStated days = map (λ d. answer (d .asked)) days ≡ map (λ d. d .stated) days
+
+-- Sheets ----------------------------------------------------------------------------
+
+-- the listing's sheet
+abbrev listed : Sheet
+listed =
+    "    4    2    2    3"
+    ∷ "    1    1    2    2"
+    ∷ "    2    1    4    2"
+    ∷ "    3    2    3    1" ∷ []
+
+-- the day that is held
+abbrev held : Sheet
+held = "    3    1    1    2" ∷ "    1    1    2    2" ∷ "    2    2    3    2" ∷ []
+
+-- the day on which nearest-deadline feeding fails
+abbrev deadlines : Sheet
+deadlines =
+    "    3    2    1    3"
+    ∷ "    1    1    2    1"
+    ∷ "    2    1    2    1"
+    ∷ "    3    1    3    3" ∷ []
+
+-- a day without rations, and a wake cost one above its slots, or equal to them
+abbrev idleLong : Sheet
+idleLong = "    3    1    4    0" ∷ []
+
+abbrev idleEqual : Sheet
+idleEqual = "    3    1    3    0" ∷ []
+
+-- the day of one slot with the greatest wake cost
+abbrev oneSlot : Sheet
+oneSlot = "    1    1  200    1" ∷ "    1    1    1    1" ∷ []
+
+-- the day with one feeding, in slot 3
+abbrev late : Sheet
+late = "    3    1    1    1" ∷ "    1    1    3    1" ∷ []
+
+-- busy at both ends of the day, with a wake cost above the stretch between them, or equal to it
+abbrev endsOn : Sheet
+endsOn = "    3    1    2    2" ∷ "    1    1    1    1" ∷ "    2    3    3    1" ∷ []
+
+abbrev endsOff : Sheet
+endsOff = "    3    1    1    2" ∷ "    1    1    1    1" ∷ "    2    3    3    1" ∷ []
+
+-- The starred days ------------------------------------------------------------------
+
+-- where only lows are named, highs are m
+abbrev pub starredDays : List Day
+starredDays =
+    day (outputFor listed)
+    (bytes
+    (text
+    ("PLAN"
+    ∷ "    9    2    4    5"
+    ∷ "    1    1    4    2"
+    ∷ "    2    1    2    0"
+    ∷ "    2    3    3    2"
+    ∷ "    2    4    4    0"
+    ∷ "    1    1    1    1"
+    ∷ "    2    1    1    2"
+    ∷ "    3    1    2    1"
+    ∷ "    3    2    3    1"
+    ∷ "    4    1    2    2" ∷ [])))
+    ∷ day (countsFor listed) (numbers (1 ∷ 1 ∷ 2 ∷ 1 ∷ []))
+    ∷ day (energyFor listed) (number 9)
+    ∷ day (outputFor held) (bytes (text ("HELD" ∷ "   12    1    2    1" ∷ "    2    0    0    0" ∷ [])))
+    ∷ day (shortfallFor held (1 ∷ 0 ∷ 0 ∷ [])) (signed 0 0 (pos 0))
+    ∷ day (shortfallFor held (1 ∷ 1 ∷ 1 ∷ [])) (signed 0 0 (pos 1))
+    ∷ day (shortfallFor listed (0 ∷ 0 ∷ 0 ∷ 1 ∷ [])) (signed 0 0 (negsuc 1))
+    ∷ day (feedingsFor deadlines) (lines (line 1 1 1 1 ∷ line 1 2 3 1 ∷ line 2 1 2 1 ∷ line 2 2 3 2 ∷ line 3 1 3 3 ∷ []))
+    ∷ day (energyFor deadlines) (number 7)
+    ∷ day (stretchesFor idleLong) (lines (line 1 1 3 0 ∷ []))
+    ∷ day (energyFor idleLong) (number 0)
+    ∷ day (startsFor idleLong) (number 0)
+    ∷ day (stretchesFor idleEqual) (lines (line 1 1 3 0 ∷ []))
+    ∷ day (energyFor idleEqual) (number 0)
+    ∷ day (energyFor oneSlot) (number 201)
+    ∷ day (stretchesFor late) (lines (line 1 1 2 0 ∷ line 1 3 3 2 ∷ []))
+    ∷ day (energyFor late) (number 2)
+    ∷ day (boundsFor late (1 ∷ 1 ∷ 0 ∷ []) (1 ∷ 1 ∷ 1 ∷ [])) (isYes 0 0 false)
+    ∷ day (boundsFor late (0 ∷ 1 ∷ 0 ∷ []) (0 ∷ 0 ∷ 1 ∷ [])) (isYes 0 0 false)
+    ∷ day (energyFor endsOn) (number 5)
+    ∷ day (energyFor endsOff) (number 4)
+    ∷ []
+
+-- every starred day is as document 01 says
+pub starred-days-as-stated : AsStated starredDays
+unfolding listings
+starred-days-as-stated = refl
+
+-- Days that are not starred -----------------------------------------------------------
+
+-- the refused heads, and two days that settle orders which the starred days leave open: blowers from m down and not from 1 up, and feedings slot by
+-- slot and not ration by ration
+abbrev pub otherDays : List Day
+otherDays =
+    day (outputFor ("   97    1    0    0" ∷ [])) (bytes (text ("HELD" ∷ "    3    1    0    0" ∷ [])))
+    ∷ day (outputFor ("   96    9    0    0" ∷ [])) (bytes (text ("HELD" ∷ "    4    1    0    0" ∷ [])))
+    ∷ day (outputFor ("   96    8  201    0" ∷ [])) (bytes (text ("HELD" ∷ "    5    1    0    0" ∷ [])))
+    ∷ day (countsFor ("    2    2    1    2" ∷ "    1    1    2    1" ∷ "    2    1    2    1" ∷ [])) (numbers (1 ∷ 1 ∷ []))
+    ∷ day (feedingsFor ("    3    1    1    3" ∷ "    1    2    3    1" ∷ "    2    1    3    1" ∷ "    3    1    2    1" ∷ []))
+    (lines (line 1 1 2 1 ∷ line 2 1 3 1 ∷ line 3 1 1 1 ∷ []))
+    ∷ []
+
+pub other-days-as-stated : AsStated otherDays
+unfolding listings
+other-days-as-stated = refl

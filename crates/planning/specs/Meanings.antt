@@ -1,0 +1,24 @@
+-- Whoever says `unfolding listings` has every definition computed that leads from a sheet's bytes to its listing and back from a listing to its lines:
+-- for tables of days. Assumes nothing.
+use Rattle.sheet.specs.Field.{leading, columns, writeField}
+use Rattle.sheet.specs.Sheet.{writeLine}
+use Rattle.sheet.specs.Calls.{padded}
+use Rattle.questions.specs.Meanings.{answers}
+use Rattle.stretches.specs.Method.{onRun, idleFor, busyFor, longest, idleRun, busyRun, settle, settleAll, loads}
+use Rattle.stretches.specs.Feedings.{prefer, cells, withCounts, chosen}
+use Rattle.stretches.specs.Intervals.{join, runs, intervals, size}
+use Rattle.energy.specs.Energy.{atEnd, state, onIn, onSlots, startAt, startsFrom, startsOf, starts, on, energy}
+use Rattle.listing.specs.Lines.{stretchLine, blowerLines, stretchLines, partAt, fedIn, feedLine, slotLines, feedLines, planLines, membersFrom, memberLines, heldLines}
+use Rattle.listing.specs.Text.{writeLines, planText, heldText, refusalText}
+use Rattle.planning.specs.Planning.{canBePlanned, countsOf, feedingsOf, planOf, shownSet, listingOf, heldFaults, planRefusal, writes, output}
+use Rattle.planning.specs.ReadListing.{lineIn, linesOf, headLine, stretchPart, feedPart}
+
+-- the method, feedings, stretches and energy
+unfoldable pub plans : Unit {0}
+unfolding onRun idleFor busyFor longest idleRun busyRun settle settleAll loads prefer cells withCounts chosen join runs intervals size atEnd state onIn onSlots startAt startsFrom startsOf starts on energy
+plans = tt
+
+-- from text to text, and back to lines
+unfoldable pub listings : Unit {0}
+unfolding answers plans leading columns writeField writeLine padded stretchLine blowerLines stretchLines partAt fedIn feedLine slotLines feedLines planLines membersFrom memberLines heldLines writeLines planText heldText refusalText canBePlanned countsOf feedingsOf planOf shownSet listingOf heldFaults planRefusal writes output lineIn linesOf headLine stretchPart feedPart
+listings = tt

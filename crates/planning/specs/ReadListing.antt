@@ -1,0 +1,85 @@
+-- How a listing is read: its lines as numbers, the slots that a held sheet's listing shows, and the stretches and the feedings of a plan's. No more is
+-- known here of a listing than its form. Definitions only. Assumes nothing.
+use mathlib.Core.List.{List, map}
+use Prim.Native.Nat.{ℕ, _+_, _*_}
+use lib.Dec.{eqb}
+use lib.ListN.{getD, take, drop}
+use Rattle.common.specs.Lists.{range, any, keep}
+use Rattle.sheet.specs.Limits.{maxSlots}
+use Rattle.sheet.specs.Sheet.{Sheet, lineCount, lineAt, valueAt}
+use Rattle.placing.specs.Slots.{Slots}
+use Rattle.placing.specs.Schedules.{Schedule}
+use Rattle.stretches.specs.Intervals.{Interval}
+use Rattle.planning.specs.declared.Planned.{Planned}
+use Rattle.listing.specs.Sizes.{wordBytes}
+use Rattle.listing.specs.Lines.{Line, line}
+
+-- What was written --------------------------------------------------------------------
+
+-- what a call wrote in its plan buffer: as many bytes as its answer says
+abbrev pub written : Planned → (buffer : List ℕ) → List ℕ
+written answer buffer = take (answer .length) buffer
+
+-- Lines ---------------------------------------------------------------------------
+
+-- line i of a text, from 0, as four numbers
+unfoldable pub lineIn : List ℕ → ℕ → Line
+lineIn text i = line (valueAt (lineAt text i) 0) (valueAt (lineAt text i) 1) (valueAt (lineAt text i) 2) (valueAt (lineAt text i) 3)
+
+-- the lines of a listing, those after its word
+unfoldable pub linesOf : List ℕ → List Line
+linesOf listing = let text : List ℕ = drop wordBytes listing in map (lineIn text) (range 0 (lineCount text))
+
+-- the first of them, the line of counts of a held sheet and the head line of a plan
+unfoldable pub headLine : List Line → Line
+headLine ls = getD ls 0 (line 0 0 0 0)
+
+-- A held sheet's listing ------------------------------------------------------------
+
+-- the slots on the lines that follow the line of counts
+unfoldable pub slotsShown : List Line → List ℕ
+slotsShown ls = map (λ l. l .a) (drop 1 ls)
+
+-- of a day's slots, those in a list of slot numbers
+unfoldable pub slotSet : (slots : ℕ) → List ℕ → Slots
+slotSet slots ts = map (λ t. any (eqb t) ts) (range 1 slots)
+
+-- A plan's listing ------------------------------------------------------------------
+
+-- as many stretch lines as the head line says
+unfoldable pub stretchPart : List Line → List Line
+stretchPart ls = take (headLine ls .c) (drop 1 ls)
+
+-- after them, as many feed lines as it says
+unfoldable pub feedPart : List Line → List Line
+feedPart ls = take (headLine ls .d) (drop (headLine ls .c) (drop 1 ls))
+
+-- the stretch on a stretch line: first, last, and busy where its state is 2
+unfoldable pub stretchOn : Line → Interval
+stretchOn l = record { first = l .b; last = l .c; busy = eqb (l .d) 2 }
+
+-- the stretches of blower k on stretch lines
+unfoldable pub stretchesOn : List Line → ℕ → List Interval
+stretchesOn ls k = map stretchOn (keep (λ l. eqb (l .a) k) ls)
+
+-- of feed lines, those of a slot
+unfoldable pub inSlot : ℕ → List Line → List Line
+inSlot t = keep (λ l. eqb (l .a) t)
+
+-- and those of a tank
+unfoldable pub ofTank : ℕ → List Line → List Line
+ofTank tank = keep (λ l. eqb (l .c) tank)
+
+-- the tanks of a sheet's rations, in sheet order
+abbrev pub tanks : Sheet → List ℕ
+tanks s = map (λ j. j .tank) (s .jobs)
+
+-- the placing on feed lines: for each tank, in sheet order, the slots on its lines
+unfoldable pub placingOn : (slots : ℕ) → (tanks : List ℕ) → List Line → Schedule
+placingOn slots tanks ls = map (λ tank. slotSet slots (map (λ l. l .a) (ofTank tank ls))) tanks
+
+-- A placing buffer ------------------------------------------------------------------
+
+-- the placing marked in it: byte (i − 1) × 96 + t − 1 is 1 if ration i is fed in slot t
+unfoldable pub placingMarked : (slots rations : ℕ) → List ℕ → Schedule
+placingMarked slots rations bytes = map (λ i. map (λ t. eqb (getD bytes (i * maxSlots + t) 0) 1) (range 0 slots)) (range 0 rations)

@@ -1,0 +1,164 @@
+// The planning calls.
+use crate::Planned;
+use listing::grid;
+use listing::held;
+use listing::plan_listing;
+use listing::sizes::GRID_BYTES;
+use listing::sizes::PLAN_BYTES;
+use sheet::Reading;
+use stretches::Day;
+ghost use mathlib.Core.Path.{_≡_};
+ghost use mathlib.Core.Bool.{false, _||_};
+ghost use Prim.Native.Nat.{_≤_};
+ghost use lib.ListN.{length};
+ghost use Rattle.sheet.specs.Sheet.{sheetOf};
+ghost use Rattle.listing.specs.Sizes.{planBytes, gridBytes};
+ghost use Rattle.planning.specs.Planning.{planRefusal, shortPlan, shortGrid, listedAnswer, unlistedAnswer, listingAfter, gridAfter};
+ghost use Rattle.planning.specs.SheetDays.{ReadSheet, DayFound, SomeSheetDay, DayListed, DayPlaced, NumberOf};
+
+// A refusal's answer: nothing was written.
+fn refuse(number: u32, line: u32) -> Planned
+    ensures { λ r. ⌜ r ≡ record { number = number; line = line; length = 0 } ⌝ }
+{
+    Planned {
+        number,
+        line,
+        length: 0,
+    }
+}
+
+// The day of an accepted sheet.
+pub fn day_of(sheet: Reading) -> Day
+    requires { ⌜ ReadSheet sheet ⌝ }
+    ensures { λ r. ⌜ DayFound sheet r ⌝ }
+{
+    let numbers = sheet.numbers;
+    stretches::plan_day(
+        sheet.slots as usize,
+        sheet.blowers as u8,
+        sheet.rations as usize,
+        &numbers,
+    )
+}
+
+// Writes the listing of a day, planned or held, and answers its length.
+fn list_day(sheet: Reading, day: Day, out: &mut [u8]) -> usize
+    requires { ⌜ SomeSheetDay sheet day × (planBytes ≤ length (now out)) ⌝ }
+    ensures { λ r. ⌜ DayListed sheet day (now (out .entry)) (now (out .exit)) r ⌝ }
+{
+    let slots = sheet.slots as usize;
+    if day.held {
+        let marks = day.marks;
+        return held::put_held(out, slots, sheet.blowers, &marks, day.forced);
+    }
+    let counts = day.counts;
+    let numbers = sheet.numbers;
+    let fed = day.fed;
+    plan_listing::put_plan(
+        out,
+        slots,
+        sheet.blowers,
+        sheet.wake,
+        &counts,
+        &numbers,
+        &fed,
+    )
+}
+
+// Writes the placing of a day, all 0 where it is held.
+fn place_day(sheet: Reading, day: Day, out: &mut [u8])
+    requires { ⌜ SomeSheetDay sheet day × (gridBytes ≤ length (now out)) ⌝ }
+    ensures { λ _. ⌜ DayPlaced sheet day (now (out .entry)) (now (out .exit)) ⌝ }
+{
+    if day.held {
+        grid::clear_grid(out);
+        return;
+    }
+    let fed = day.fed;
+    grid::put_grid(out, sheet.slots as usize, sheet.rations as usize, &fed);
+}
+
+// The number of a day that was planned, or held for want of blowers.
+fn number_of(is_held: bool) -> u32
+    ensures { λ r. ⌜ r ≡ NumberOf «is_held» ⌝ }
+{
+    if is_held { 12 } else { 0 }
+}
+
+// Plans a sheet, with a plan buffer lent: number 0 and the length of the listing of the plan, or 12 and that of the listing of the held sheet, at the front of
+// `listing`, whose other bytes keep their values; or the number and the line of the first other refusal, and nothing written.
+pub fn plan(b: &[u8], listing: &mut [u8]) -> Planned
+    ensures { λ r. ⌜ r ≡ listedAnswer (planRefusal (now (b .entry)) (shortPlan (now (listing .entry)))) (sheetOf (now (b .entry))) ⌝ }
+    ensures { λ _. ⌜ now (listing .exit) ≡ listingAfter (planRefusal (now (b .entry)) (shortPlan (now (listing .entry)))) (sheetOf (now (b .entry))) (now (listing .entry)) ⌝ }
+{
+    let sheet = sheet::read(b);
+    if sheet.number != 0 {
+        return refuse(sheet.number, sheet.line);
+    }
+    if listing.len() < PLAN_BYTES {
+        return refuse(10, 0);
+    }
+    let day = day_of(sheet);
+    let length = list_day(sheet, day, listing);
+    Planned {
+        number: number_of(day.held),
+        line: 0,
+        length,
+    }
+}
+
+// Plans a sheet, with a placing buffer lent: the number and the line as `plan` gives them, and length 0; the placing at the front of `placing`, all 0 where the
+// sheet is held for want of blowers, and nothing written on any other refusal.
+pub fn plan_placing(b: &[u8], placing: &mut [u8]) -> Planned
+    ensures { λ r. ⌜ r ≡ unlistedAnswer (planRefusal (now (b .entry)) (shortGrid (now (placing .entry)))) ⌝ }
+    ensures { λ _. ⌜ now (placing .exit) ≡ gridAfter (planRefusal (now (b .entry)) (shortGrid (now (placing .entry)))) (sheetOf (now (b .entry))) (now (placing .entry)) ⌝ }
+{
+    let sheet = sheet::read(b);
+    if sheet.number != 0 {
+        return refuse(sheet.number, sheet.line);
+    }
+    if placing.len() < GRID_BYTES {
+        return refuse(10, 0);
+    }
+    let day = day_of(sheet);
+    place_day(sheet, day, placing);
+    refuse(number_of(day.held), 0)
+}
+
+// Plans a sheet, with both buffers lent.
+pub fn plan_both(b: &[u8], listing: &mut [u8], placing: &mut [u8]) -> Planned
+    ensures { λ r. ⌜ r ≡ listedAnswer (planRefusal (now (b .entry)) (shortPlan (now (listing .entry)) || shortGrid (now (placing .entry)))) (sheetOf (now (b .entry))) ⌝ }
+    ensures { λ _. ⌜ now (listing .exit) ≡ listingAfter (planRefusal (now (b .entry)) (shortPlan (now (listing .entry)) || shortGrid (now (placing .entry)))) (sheetOf (now (b .entry))) (now (listing .entry)) ⌝ }
+    ensures { λ _. ⌜ now (placing .exit) ≡ gridAfter (planRefusal (now (b .entry)) (shortPlan (now (listing .entry)) || shortGrid (now (placing .entry)))) (sheetOf (now (b .entry))) (now (placing .entry)) ⌝ }
+{
+    let sheet = sheet::read(b);
+    if sheet.number != 0 {
+        return refuse(sheet.number, sheet.line);
+    }
+    if listing.len() < PLAN_BYTES {
+        return refuse(10, 0);
+    }
+    if placing.len() < GRID_BYTES {
+        return refuse(10, 0);
+    }
+    let day = day_of(sheet);
+    place_day(sheet, day, placing);
+    let length = list_day(sheet, day, listing);
+    Planned {
+        number: number_of(day.held),
+        line: 0,
+        length,
+    }
+}
+
+// Plans a sheet with no buffer lent: the number and the line alone.
+pub fn plan_number(b: &[u8]) -> Planned
+    ensures { λ r. ⌜ r ≡ unlistedAnswer (planRefusal (now (b .entry)) false) ⌝ }
+{
+    let sheet = sheet::read(b);
+    if sheet.number != 0 {
+        return refuse(sheet.number, sheet.line);
+    }
+    let day = day_of(sheet);
+    refuse(number_of(day.held), 0)
+}
