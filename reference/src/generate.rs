@@ -1,4 +1,5 @@
-//! Generated sheets: well-formed ones of several kinds.
+//! Generated sheets: well-formed ones of several kinds, many of them with several meals
+//! for some tanks.
 
 use crate::draws::Draws;
 use crate::placing::shown_set;
@@ -69,11 +70,51 @@ fn some_sizes(draws: &mut Draws, limits: Sizes, least_rations: u32) -> Sizes {
     }
 }
 
+/// Deals the rations of two sheets in three out to fewer tanks, as meals.
+fn some_meals(draws: &mut Draws, sheet: &mut Sheet) {
+    if !draws.one_in(3) {
+        let rations = std::mem::take(&mut sheet.rations);
+        sheet.rations = meals(draws, rations);
+    }
+}
+
+/// The rations as meals: most become the next meal of a tank whose windows so far end
+/// before theirs begins; of several such tanks the one that ends last, so that many
+/// windows touch. Windows and volumes stay, and with them whether there is a sound placing.
+fn meals(draws: &mut Draws, mut rations: Vec<Ration>) -> Vec<Ration> {
+    rations.sort_by_key(|r| r.first);
+    let most_meals = draws.between(2, 8) as usize;
+    let mut tanks: Vec<Vec<Ration>> = Vec::new();
+    for ration in rations {
+        let end = |meals: &Vec<Ration>| meals[meals.len() - 1].last;
+        let fitting = tanks
+            .iter_mut()
+            .filter(|meals| meals.len() < most_meals && end(meals) < ration.first)
+            .max_by_key(|meals| end(meals));
+        match fitting {
+            Some(meals) if !draws.one_in(4) => meals.push(ration),
+            _ => tanks.push(vec![ration]),
+        }
+    }
+    // Sheet order decides between rations, so it is not that of the day.
+    for i in (1..tanks.len()).rev() {
+        tanks.swap(i, draws.index(i + 1));
+    }
+    let numbers = rising_tanks(draws, tanks.len());
+    tanks
+        .into_iter()
+        .zip(numbers)
+        .flat_map(|(meals, tank)| meals.into_iter().map(move |r| Ration { tank, ..r }))
+        .collect()
+}
+
 /// A well-formed sheet with windows and volumes at random. Volumes are kept near
 /// the day's capacity, so that some of these sheets have a plan and some are held.
 pub fn random_sheet(draws: &mut Draws, limits: Sizes) -> Sheet {
     let sizes = some_sizes(draws, limits, 0);
-    random_sheet_of(draws, sizes)
+    let mut sheet = random_sheet_of(draws, sizes);
+    some_meals(draws, &mut sheet);
+    sheet
 }
 
 fn random_sheet_of(draws: &mut Draws, sizes: Sizes) -> Sheet {
@@ -109,12 +150,13 @@ fn random_sheet_of(draws: &mut Draws, sizes: Sizes) -> Sheet {
 
 /// A well-formed sheet on which every window is the whole day.
 pub fn whole_day_sheet(draws: &mut Draws, limits: Sizes) -> Sheet {
-    let mut sheet = random_sheet(draws, limits);
+    let sizes = some_sizes(draws, limits, 0);
+    let mut sheet = random_sheet_of(draws, sizes);
     widen(&mut sheet);
     sheet
 }
 
-/// Makes every window the whole day.
+/// Makes every window the whole day, on a sheet with one meal for each tank.
 fn widen(sheet: &mut Sheet) {
     for ration in &mut sheet.rations {
         ration.first = 1;
@@ -126,7 +168,9 @@ fn widen(sheet: &mut Sheet) {
 /// wider than the slots chosen: it has a plan, and few placings to choose from.
 pub fn tight_sheet(draws: &mut Draws, limits: Sizes) -> Sheet {
     let sizes = some_sizes(draws, limits, 1);
-    tight_sheet_of(draws, sizes)
+    let mut sheet = tight_sheet_of(draws, sizes);
+    some_meals(draws, &mut sheet);
+    sheet
 }
 
 fn tight_sheet_of(draws: &mut Draws, sizes: Sizes) -> Sheet {
@@ -177,7 +221,7 @@ pub fn crowded_sheet(draws: &mut Draws, limits: Sizes) -> Sheet {
     sheet
 }
 
-/// Makes rations harder to place.
+/// Makes rations harder to place. No window grows, so that meals stay apart.
 fn crowd(draws: &mut Draws, sheet: &mut Sheet) {
     if draws.one_in(3) && sheet.blowers > 1 {
         sheet.blowers -= 1;
@@ -225,9 +269,11 @@ pub fn full_sheet(draws: &mut Draws) -> Sheet {
         _ => random_sheet_of(draws, sizes),
     };
     match kind {
-        1 => crowd(draws, &mut sheet),
         2 | 3 => widen(&mut sheet),
-        _ => {}
+        _ => some_meals(draws, &mut sheet),
+    }
+    if kind == 1 {
+        crowd(draws, &mut sheet);
     }
     sheet
 }

@@ -58,7 +58,7 @@ pub fn program(bytes: &[u8]) -> Vec<u8> {
     }
 }
 
-/// The planning call: number, line and length. Checks 1 to 9, 10 for each buffer
+/// The planning call: number, line and length. Checks 1 to 9 and 13, 10 for each buffer
 /// that is lent, then 12. Without a plan buffer the length is 0. Numbers 0 and 12
 /// settle the first 6,144 bytes of a lent placing buffer; bytes after what is
 /// written keep their values.

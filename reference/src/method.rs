@@ -23,7 +23,7 @@ pub struct Stretch {
     pub state: State,
 }
 
-/// One feeding: slot, blower and tank, and which of the ration's feedings it is.
+/// One feeding: slot, blower and tank, and which of the meal's feedings it is.
 #[derive(Clone, Copy, Debug, PartialEq, Eq)]
 pub struct Feeding {
     pub slot: u32,
@@ -216,7 +216,7 @@ fn on_slots(stretches: &[Stretch]) -> u32 {
 }
 
 /// The feedings of a placing: in a slot, fed rations take blowers 1, 2, .. in sheet
-/// order; parts count a ration's feedings.
+/// order; parts count the feedings of a meal, so that each ration line begins at 1.
 fn feedings(sheet: &Sheet, placing: &Placing) -> Vec<Feeding> {
     let mut parts = vec![0; sheet.rations.len()];
     let mut feedings = Vec::new();

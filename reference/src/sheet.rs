@@ -1,4 +1,4 @@
-//! The feed sheet: lines of four numbers, checks 1 to 9, reading, writing and
+//! The feed sheet: lines of four numbers, checks 1 to 9 and 13, reading, writing and
 //! the look-up by tank.
 
 /// Bytes in a line: four fields of five columns, then byte 10.
@@ -13,7 +13,7 @@ pub const MOST_WAKE: u32 = 200;
 pub const MOST_RATIONS: u32 = 64;
 pub const MOST_TANK: u32 = 999;
 
-/// One ration line.
+/// One ration line: a meal of a tank, which may have several (request 102).
 #[derive(Clone, Copy, Debug, PartialEq, Eq)]
 pub struct Ration {
     pub tank: u32,
@@ -79,7 +79,7 @@ pub fn line_text(values: [u32; 4]) -> [u8; LINE] {
 
 /// The number that a field holds, or none if it is not in the stated form:
 /// blanks, then at least one digit, and no leading zero but in `0` itself.
-fn field_value(field: &[u8]) -> Option<u32> {
+pub fn field_value(field: &[u8]) -> Option<u32> {
     let blanks = field.iter().take_while(|&&b| b == b' ').count();
     let digits = &field[blanks..];
     let all_digits = digits.iter().all(u8::is_ascii_digit);
@@ -106,7 +106,7 @@ fn line_values(line: &[u8]) -> Option<[u32; 4]> {
     Some(values)
 }
 
-/// Checks 3 to 9 on values. The n-th ration would stand on line n + 1.
+/// Checks 3 to 9 and 13 on values. The n-th ration would stand on line n + 1.
 fn check_values(
     slots: u32,
     blowers: u32,
@@ -126,11 +126,11 @@ fn check_values(
     if n > MOST_RATIONS || flat_rations.len() != 4 * n as usize {
         return refuse(6, 1);
     }
-    let mut rations = Vec::new();
-    let mut tank_before = 0;
+    let mut rations: Vec<Ration> = Vec::new();
     for (record, line) in flat_rations.chunks(4).zip(2..) {
         let (tank, first, last, volume) = (record[0], record[1], record[2], record[3]);
-        if !(1..=MOST_TANK).contains(&tank) || tank <= tank_before {
+        let before = rations.last();
+        if !(1..=MOST_TANK).contains(&tank) || before.is_some_and(|b| tank < b.tank) {
             return refuse(7, line);
         }
         if !(1 <= first && first <= last && last <= slots) {
@@ -139,7 +139,9 @@ fn check_values(
         if volume == 0 || volume > last - first + 1 {
             return refuse(9, line);
         }
-        tank_before = tank;
+        if before.is_some_and(|b| tank == b.tank && first <= b.last) {
+            return refuse(13, line);
+        }
         rations.push(Ration {
             tank,
             first,
@@ -155,7 +157,7 @@ fn check_values(
     })
 }
 
-/// Reads a sheet: checks 1 to 9 in their order.
+/// Reads a sheet: checks 1 to 9 and 13 in their order, 7, 8, 9 and 13 line by line.
 pub fn read(bytes: &[u8]) -> Result<Sheet, Refusal> {
     if bytes.len() < LINE || bytes.len() > LONGEST_SHEET || !bytes.len().is_multiple_of(LINE) {
         return refuse(1, 0);
@@ -171,7 +173,7 @@ pub fn read(bytes: &[u8]) -> Result<Sheet, Refusal> {
     check_values(slots, blowers, wake, n, &lines[1..].concat())
 }
 
-/// Writes a sheet into the lent buffer: checks 3 to 9 on the values, then 10.
+/// Writes a sheet into the lent buffer: checks 3 to 9 and 13 on the values, then 10.
 /// Gives number, line and length. A refusal changes no byte, and bytes after the
 /// sheet keep their values.
 pub fn write(
@@ -193,14 +195,17 @@ pub fn write(
     }
 }
 
-/// The tank's line as a part of the sheet, closing byte 10 included; empty if the
-/// sheet is refused by checks 1 to 9 or lacks the tank.
+/// All lines of the tank as one part of the sheet, closing bytes 10 included; empty if
+/// the sheet is refused by checks 1 to 9 or 13, or lacks the tank. The lines stand
+/// together, since no tank is below the one before it.
 pub fn find(bytes: &[u8], tank: u32) -> &[u8] {
     let Ok(sheet) = read(bytes) else {
         return &[];
     };
-    match sheet.rations.iter().position(|r| r.tank == tank) {
-        Some(i) => &bytes[LINE * (i + 1)..LINE * (i + 2)],
-        None => &[],
-    }
+    let is_meal = |r: &Ration| r.tank == tank;
+    let Some(first) = sheet.rations.iter().position(is_meal) else {
+        return &[];
+    };
+    let meals = sheet.rations[first..].iter().filter(|r| is_meal(r)).count();
+    &bytes[LINE * (first + 1)..LINE * (first + 1 + meals)]
 }

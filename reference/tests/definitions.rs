@@ -3,9 +3,9 @@
 
 use reference::draws::Draws;
 use reference::generate::{any_sheet, random_sheet, Sizes};
-use reference::method::{self, State};
+use reference::method::{self, Feeding, State};
 use reference::placing::{bounds, shortfall, shown_set, Placing, Question};
-use reference::sheet::Sheet;
+use reference::sheet::{Ration, Sheet};
 
 const SMALL: Sizes = Sizes {
     slots: 4,
@@ -236,6 +236,7 @@ fn check_plan(sheet: &Sheet) -> bool {
             assert_eq!(plan.counts, counts, "{sheet:?}");
             let placing = feedings_by_definition(sheet, &counts, &placings);
             assert_eq!(plan.placing, placing, "{sheet:?}");
+            check_feed_lines(sheet, &plan);
             check_energy(sheet, &plan);
             check_that_stretches_stop_where_they_must(sheet, &sound);
             true
@@ -246,6 +247,27 @@ fn check_plan(sheet: &Sheet) -> bool {
             false
         }
     }
+}
+
+/// Feed lines: in each slot the fed rations in sheet order on blowers 1, 2, .., each with
+/// the number of its own feedings so far. No tank is fed by two blowers.
+fn check_feed_lines(sheet: &Sheet, plan: &method::Plan) {
+    let mut lines = Vec::new();
+    for t in 0..sheet.slots as usize {
+        let fed = (0..sheet.rations.len()).filter(|&i| plan.placing[i][t]);
+        let here: Vec<Feeding> = fed
+            .zip(1..)
+            .map(|(i, blower)| Feeding {
+                slot: t as u32 + 1,
+                blower,
+                tank: sheet.rations[i].tank,
+                part: (0..=t).map(|u| u32::from(plan.placing[i][u])).sum(),
+            })
+            .collect();
+        assert!(here.windows(2).all(|pair| pair[0].tank < pair[1].tank));
+        lines.extend(here);
+    }
+    assert_eq!(plan.feedings, lines, "{sheet:?}");
 }
 
 /// Energy slot by slot: an idle slot is on if fewer than q idle slots lie together, and
@@ -275,12 +297,29 @@ fn check_energy(sheet: &Sheet, plan: &method::Plan) {
 #[test]
 fn plans_of_small_days() {
     let mut draws = Draws::new(2);
-    let mut planned = 0;
+    let (mut planned, mut meals) = (0, 0);
     for _ in 0..6_000 {
         let sheet = any_sheet(&mut draws, SMALL);
-        planned += u32::from(check_plan(&sheet));
+        let is_planned = check_plan(&sheet);
+        planned += u32::from(is_planned);
+        let is_next = |pair: &[Ration]| pair[0].tank == pair[1].tank;
+        meals += u32::from(is_planned && sheet.rations.windows(2).any(is_next));
     }
     assert!((1_000..5_000).contains(&planned), "{planned} planned");
+    assert!(meals > 100, "{meals} planned with several meals");
+}
+
+/// Tanks for a list of windows: one each, and as few as check 13 allows.
+fn tank_choices(list: &[(u32, u32, u32)]) -> [Vec<u32>; 2] {
+    let mut few: Vec<u32> = Vec::new();
+    for (i, &(first, _, _)) in list.iter().enumerate() {
+        few.push(match few.last() {
+            None => 1,
+            Some(&tank) if list[i - 1].1 < first => tank,
+            Some(&tank) => tank + 1,
+        });
+    }
+    [(1..=list.len() as u32).collect(), few]
 }
 
 /// Every day of up to three slots, two blowers and three rations.
@@ -298,19 +337,22 @@ fn plans_of_all_tiny_days() {
         let mut lists = vec![vec![]];
         for length in 0..=3 {
             for list in &lists {
-                for blowers in 1..=2 {
-                    let ration = |(&(first, last, volume), tank)| reference::sheet::Ration {
-                        tank,
-                        first,
-                        last,
-                        volume,
-                    };
-                    check_plan(&Sheet {
-                        slots,
-                        blowers,
-                        wake: length,
-                        rations: list.iter().zip(1..).map(ration).collect(),
-                    });
+                let ration = |(&(first, last, volume), tank)| Ration {
+                    tank,
+                    first,
+                    last,
+                    volume,
+                };
+                for tanks in tank_choices(list) {
+                    let rations: Vec<Ration> = list.iter().zip(tanks).map(ration).collect();
+                    for blowers in 1..=2 {
+                        check_plan(&Sheet {
+                            slots,
+                            blowers,
+                            wake: length,
+                            rations: rations.clone(),
+                        });
+                    }
                 }
             }
             lists = lists

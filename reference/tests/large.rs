@@ -24,9 +24,11 @@ fn generated_sheets_are_well_formed_and_keep_values_and_bytes() {
         let answer = write(slots, blowers, wake, n, &flat, &mut buffer);
         assert_eq!(answer, (0, 0, bytes.len()));
         assert_eq!(buffer, bytes);
-        for (i, ration) in sheet.rations.iter().enumerate() {
-            let line = &bytes[(i + 1) * LINE..(i + 2) * LINE];
-            assert_eq!(find(&bytes, ration.tank), line);
+        for tank in sheet.rations.iter().map(|r| r.tank) {
+            let field = format!("{tank:>5}");
+            let own = bytes[LINE..].chunks(LINE);
+            let own = own.filter(|line| line.starts_with(field.as_bytes()));
+            assert_eq!(find(&bytes, tank), own.collect::<Vec<_>>().concat());
         }
     }
 }

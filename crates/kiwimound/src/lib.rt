@@ -5,10 +5,3 @@ mod comparing;
 mod placings;
 mod plans;
 mod sheets;
-
-// A part of the caller's slice: where it begins, and its length.
-#[repr(C)]
-pub struct Part {
-    pub start: usize,
-    pub length: usize,
-}

@@ -47,13 +47,13 @@ windows-demandsOf s =
     }
 
 -- rations in range, by place
-pub jobsInRange-at : (slots before : ℕ) (js : List Job) → JobsInRange slots before js → (j : ℕ) → j < length js
-    → (tank : ℕ) × JobInRange slots tank (getD js j noJob)
-jobsInRange-at slots before [] h j l = absurd (omega arith)
-jobsInRange-at slots before (x ∷ js) h zero l = (before, h .0)
-jobsInRange-at slots before (x ∷ js) h (suc j) l = jobsInRange-at slots (x .tank) js (h .1) j (omega arith)
+pub jobsInRange-at : (slots before until : ℕ) (js : List Job) → JobsInRange slots before until js → (j : ℕ) → j < length js
+    → (tank : ℕ) × (last : ℕ) × JobInRange slots tank last (getD js j noJob)
+jobsInRange-at slots before until [] h j l = absurd (omega arith)
+jobsInRange-at slots before until (x ∷ js) h zero l = (before, until, h .0)
+jobsInRange-at slots before until (x ∷ js) h (suc j) l = jobsInRange-at slots (x .tank) (x .deadline) js (h .1) j (omega arith)
 
--- What the checks 3 to 9 leave of the demands of a day.
+-- What the checks 3 to 9 and 13 leave of the demands of a day.
 pub record DemandsInRange (slots : ℕ) (ds : List Demand) : Type 0 where
   pub short : slots ≤ maxSlots
   pub few : length ds ≤ maxRations
@@ -69,7 +69,7 @@ demandsOf-inRange s v =
       windows = windows-demandsOf s;
       fits = λ j l.
           let k = rw (length-demandsOf s) at l in
-          let r = jobsInRange-at (s .slots) 0 (s .jobs) (v .jobs) j k .1 in
+          let r = jobsInRange-at (s .slots) 0 0 (s .jobs) (v .jobs) j k .2 in
           omega (
             arith,
             volumeOf-demandsOf s j k,
@@ -79,7 +79,7 @@ demandsOf-inRange s v =
           );
       small = λ j l.
           let k = rw (length-demandsOf s) at l in
-          let r = jobsInRange-at (s .slots) 0 (s .jobs) (v .jobs) j k .1 in
+          let r = jobsInRange-at (s .slots) 0 0 (s .jobs) (v .jobs) j k .2 in
           omega (arith, volumeOf-demandsOf s j k, r .volume .le, r .deadline, r .release, v .head .slots .le);
     }
 

@@ -65,7 +65,7 @@ module _ (b : List ℕ) (short : Bool) {r : Reading} (e : r ≡ readingOf b) whe
   abbrev refusal : Refusal
   refusal = planRefusal b short
 
-  -- refused by 1 to 9
+  -- refused by 1 to 9 or 13
   module _ (n : r .number ≡ 0 → ⊥) where
     by-read : refusal ≡ record { number = r .number; line = r .line }
     by-read = refusal-read b short e n

@@ -7,6 +7,7 @@ use Prim.Native.Nat.{ℕ}
 use Prim.Native.String.{String}
 use lib.IntN.{ℤ, pos, negsuc}
 use Rattle.sheet.specs.Sheet.{sheetOf}
+use Rattle.sheet.specs.Calls.{tankLines, lookUp}
 use Rattle.questions.specs.Text.{text}
 use Rattle.questions.specs.Calls.{shortfallOf, boundsOf}
 use Rattle.listing.specs.Lines.{Line, line}
@@ -33,6 +34,8 @@ pub data Question : Type 0 where
   shortfallFor : Sheet → (marks : List ℕ) → Question
   -- the bounds question
   boundsFor : Sheet → (lows highs : List ℕ) → Question
+  -- all lines of a tank
+  linesFor : Sheet → (tank : ℕ) → Question
 
 pub data Answer : Type 0 where
   bytes : List ℕ → Answer
@@ -57,6 +60,7 @@ answer (stretchesFor s) = lines (stretchPart (outputLines s))
 answer (feedingsFor s) = lines (feedPart (outputLines s))
 answer (shortfallFor s marks) = let r = shortfallOf (text s) marks in signed (r .number) (r .line) (r .shortfall)
 answer (boundsFor s lows highs) = let r = boundsOf (text s) lows highs in isYes (r .number) (r .line) (r .yes)
+answer (linesFor s tank) = bytes (lookUp (text s) tank)
 
 -- A row: the question, and the answer that the paper states.
 pub record Day : Type 0 where
@@ -113,6 +117,13 @@ endsOn = "    3    1    2    2" ∷ "    1    1    1    1" ∷ "    2    3    3 
 
 abbrev endsOff : Sheet
 endsOff = "    3    1    1    2" ∷ "    1    1    1    1" ∷ "    2    3    3    1" ∷ []
+
+-- a tank with two meals, the second window beginning in the slot after the first, or in its last slot
+abbrev meals : Sheet
+meals = "    4    1    1    3" ∷ "    5    1    2    1" ∷ "    5    3    4    1" ∷ "    9    1    4    1" ∷ []
+
+abbrev mealsMeet : Sheet
+mealsMeet = "    4    1    1    3" ∷ "    5    1    2    1" ∷ "    5    2    4    1" ∷ "    9    1    4    1" ∷ []
 
 -- The starred days ------------------------------------------------------------------
 
@@ -172,8 +183,19 @@ otherDays =
     ∷ day (countsFor ("    2    2    1    2" ∷ "    1    1    2    1" ∷ "    2    1    2    1" ∷ [])) (numbers (1 ∷ 1 ∷ []))
     ∷ day (feedingsFor ("    3    1    1    3" ∷ "    1    2    3    1" ∷ "    2    1    3    1" ∷ "    3    1    2    1" ∷ []))
     (lines (line 1 1 2 1 ∷ line 2 1 3 1 ∷ line 3 1 1 1 ∷ []))
+    -- request 102: both meals are fed, their parts counted within each; a meal that begins in the last slot of the one before; the order 7, 8, 9, 13 on a line;
+    -- the lines of a tank
+    ∷ day (feedingsFor meals) (lines (line 2 1 5 1 ∷ line 3 1 5 1 ∷ line 4 1 9 1 ∷ []))
+    ∷ day (outputFor mealsMeet) (bytes (text ("HELD" ∷ "   13    3    0    0" ∷ [])))
+    ∷ day (outputFor ("    4    1    1    2" ∷ "    5    1    2    1" ∷ "    5    2    2    2" ∷ [])) (bytes (text ("HELD" ∷ "    9    3    0    0" ∷ [])))
+    ∷ day (outputFor ("    4    1    1    2" ∷ "    5    1    2    1" ∷ "    5    2    1    2" ∷ [])) (bytes (text ("HELD" ∷ "    8    3    0    0" ∷ [])))
+    ∷ day (outputFor ("    4    1    1    2" ∷ "    5    1    2    1" ∷ "    4    3    3    1" ∷ [])) (bytes (text ("HELD" ∷ "    7    3    0    0" ∷ [])))
+    ∷ day (linesFor meals 5) (bytes (text ("    5    1    2    1" ∷ "    5    3    4    1" ∷ [])))
+    ∷ day (linesFor meals 9) (bytes (text ("    9    1    4    1" ∷ [])))
+    ∷ day (linesFor meals 4) (bytes [])
+    ∷ day (linesFor mealsMeet 5) (bytes [])
     ∷ []
 
 pub other-days-as-stated : AsStated otherDays
-unfolding listings
+unfolding listings tankLines lookUp
 other-days-as-stated = refl

@@ -22,7 +22,7 @@ use Rattle.placing.specs.Schedules.{Schedule, Sound, load, volumeOf}
 use Rattle.placing.specs.Shortfall.{forced, capacity, shortfall}
 use Rattle.placing.specs.Demands.{demandsOf, noLow, fullHigh}
 use Rattle.placing.specs.Theorems as Placing
-use Rattle.placing.specs.DemandLaws.{windows-demandsOf}
+use Rattle.placing.specs.DemandLaws.{noJob, windows-demandsOf}
 use Rattle.stretches.specs.Intervals.{Interval, intervals}
 use Rattle.stretches.specs.Keeping.{Keeps, Carries, Before, withNoSlots}
 use Rattle.stretches.specs.Theorems.{counts-keep}
@@ -31,12 +31,12 @@ use Rattle.listing.specs.Sizes.{wordBytes, planBytes, gridBytes}
 use Rattle.listing.specs.Lines.{Line, stretchLines, feedLines, planLines, membersFrom, heldLines}
 use Rattle.listing.specs.Text.{planWord, heldWord}
 use Rattle.planning.specs.Planning.{canBePlanned, countsOf, feedingsOf, planOf, shownSet, listingOf, gridFor, planRefusal, shortPlan, shortGrid, listedAnswer, unlistedAnswer, listingAfter, gridAfter}
-use Rattle.planning.specs.ReadListing.{written, tanks, linesOf, headLine, slotsShown, slotSet, stretchPart, feedPart, stretchesOn, inSlot, ofTank, placingOn, placingMarked}
+use Rattle.planning.specs.ReadListing.{written, tanks, linesOf, headLine, slotsShown, slotSet, stretchPart, feedPart, stretchesOn, inSlot, ofTank, ofMeal, placingOn, placingMarked}
 use Rattle.planning.specs.SlotSetLaws.{slotSet-members, slots-memberLines}
 use Rattle.planning.specs.StretchLineLaws.{stretchesOn-lines, on-lines, listed-counts, counts-listed}
 use Rattle.planning.specs.FeedLineLaws as Feed
 use Rattle.planning.specs.GridLaws.{placingMarked-written}
-use Rattle.planning.specs.DayLaws.{tanks-rise, planned-sound, sound-planned, length-fullHigh, feedings-sound, feedings-load, feedings-rows, length-feedings, tanks-feedings, feedings-volume, counts-stop}
+use Rattle.planning.specs.DayLaws.{own-lines, planned-sound, sound-planned, length-fullHigh, feedings-sound, feedings-load, feedings-rows, length-feedings, tanks-feedings, feedings-volume, counts-stop}
 use Rattle.planning.specs.FitLaws.{capacity-fullHigh}
 use Rattle.planning.specs.WrittenLaws.{shortPlan-long, shortGrid-long, number-planned, number-held, listing-written, grid-written, writes-planned, writes-held, listing-plan, grid-plan, word-plan, lines-plan, whole-plan, head-plan, stretchPart-plan, feedPart-plan, length-shownSet, shownLines, word-held, lines-held}
 
@@ -100,8 +100,10 @@ pub record LinesOf (s : Sheet) (ls : List Line) (p : Schedule) : Type 0 where
   -- the feed lines of slot t + 1 have the blowers 1, 2, .., one for each of its feedings
   pub in-slot : (t : ℕ) → t < s .slots → map (λ l. l .b) (inSlot (suc t) (feedPart ls)) ≡ range 1 (getD (loadOf s p) t 0)
   -- those of ration i + 1 have its slots, each once and rising, and the parts 1, 2, .., one for each slot of its volume
-  pub of-ration : (i : ℕ) → i < length (s .jobs) → map (λ l. l .a) (ofTank (getD (tanks s) i 0) (feedPart ls)) ≡ membersFrom 1 (getD p i [])
-  pub parts : (i : ℕ) → i < length (s .jobs) → map (λ l. l .d) (ofTank (getD (tanks s) i 0) (feedPart ls)) ≡ range 1 (volumeOf (demandsOf s) i)
+  pub of-ration : (i : ℕ) → i < length (s .jobs) → map (λ l. l .a) (ofMeal (getD (s .jobs) i noJob) (feedPart ls)) ≡ membersFrom 1 (getD p i [])
+  pub parts : (i : ℕ) → i < length (s .jobs) → map (λ l. l .d) (ofMeal (getD (s .jobs) i noJob) (feedPart ls)) ≡ range 1 (volumeOf (demandsOf s) i)
+  -- no tank has two blowers in a slot, though it may have several meals
+  pub one-blower : (t tank : ℕ) → t < s .slots → length (ofTank tank (inSlot (suc t) (feedPart ls))) ≤ 1
   -- there are no feed lines of other slots or other tanks
   pub in-day : (l : Line) → List·Memᴰ l (feedPart ls) → (1 ≤ l .a) × (l .a ≤ s .slots) × List·Memᴰ (l .c) (tanks s)
 
@@ -115,10 +117,10 @@ pub record DemandThree (s : Sheet) (number : ℕ) (listing grid : List ℕ) : Ty
   pub held : number ≡ 12 → Shortage s (headLine (linesOf listing)) (slotsShown (linesOf listing)) (slotSet (s .slots) (slotsShown (linesOf listing)))
   -- the feedings on the lines of a plan are a sound placing that keeps all its stretches, and no stretch that stops could go on
   pub plan-word : number ≡ 0 → take wordBytes listing ≡ planWord
-  pub plan : number ≡ 0 → SoundPlan s (stretchPart (linesOf listing)) (placingOn (s .slots) (tanks s) (feedPart (linesOf listing)))
-  pub plan-lines : number ≡ 0 → LinesOf s (linesOf listing) (placingOn (s .slots) (tanks s) (feedPart (linesOf listing)))
+  pub plan : number ≡ 0 → SoundPlan s (stretchPart (linesOf listing)) (placingOn (s .slots) (s .jobs) (feedPart (linesOf listing)))
+  pub plan-lines : number ≡ 0 → LinesOf s (linesOf listing) (placingOn (s .slots) (s .jobs) (feedPart (linesOf listing)))
   -- the feedings marked in the placing buffer are the same
-  pub marked : number ≡ 0 → placingMarked (s .slots) (length (s .jobs)) grid ≡ placingOn (s .slots) (tanks s) (feedPart (linesOf listing))
+  pub marked : number ≡ 0 → placingMarked (s .slots) (length (s .jobs)) grid ≡ placingOn (s .slots) (s .jobs) (feedPart (linesOf listing))
 
 -- Proof -----------------------------------------------------------------------------------------
 
@@ -174,10 +176,10 @@ module _ (s : Sheet) (can : canBePlanned s ≡ true) where
       from-one k j u v o (inr b) = omega (arith, b .0)
 
 module _ (s : Sheet) (v : ValuesInRange s (length (s .jobs)) true) (can : canBePlanned s ≡ true) where
-  placing-on : placingOn (s .slots) (tanks s) (feedPart (planLines (planOf s))) ≡ feedingsOf s
+  placing-on : placingOn (s .slots) (s .jobs) (feedPart (planLines (planOf s))) ≡ feedingsOf s
   placing-on =
-      ap (placingOn (s .slots) (tanks s)) (feedPart-plan s)
-      ∙ Feed.placingOn-lines (s .slots) (tanks s) (feedingsOf s) (tanks-feedings s can) (feedings-rows s can) (tanks-rise s v)
+      ap (placingOn (s .slots) (s .jobs)) (feedPart-plan s)
+      ∙ Feed.placingOn-lines (s .slots) (tanks s) (feedingsOf s) (tanks-feedings s can) (feedings-rows s can) (s .jobs) (sym (length-feedings s can)) (own-lines s can v)
 
   lines-of : LinesOf s (planLines (planOf s)) (feedingsOf s)
   lines-of =
@@ -191,11 +193,12 @@ module _ (s : Sheet) (v : ValuesInRange s (length (s .jobs)) true) (can : canBeP
         blowers = λ k u i. on-lines (s .wake) (countsOf s) (s .blowers) k u (rw (stretchPart-plan s) at i);
         in-slot = λ t l. ap (λ ls. map (λ x. x .b) (inSlot (suc t) ls)) (feedPart-plan s) ∙ Feed.blowers-inSlot (s .slots) (tanks s) (feedingsOf s) long rows t l;
         of-ration = λ i l.
-            ap (λ ls. map (λ x. x .a) (ofTank (getD (tanks s) i 0) ls)) (feedPart-plan s)
-            ∙ Feed.slots-ofTank (s .slots) (tanks s) (feedingsOf s) long rows (tanks-rise s v) i (place i l);
+            ap (λ ls. map (λ x. x .a) (ofMeal (getD (s .jobs) i noJob) ls)) (feedPart-plan s)
+            ∙ Feed.slots-ofMeal (s .slots) (tanks s) (feedingsOf s) long rows (s .jobs) (own-lines s can v) i (place i l);
         parts = λ i l.
-            ap (λ ls. map (λ x. x .d) (ofTank (getD (tanks s) i 0) ls)) (feedPart-plan s)
-            ∙ Feed.parts-ofTank (s .slots) (tanks s) (feedingsOf s) long rows (tanks-rise s v) i (place i l) ∙ ap (range 1) (feedings-volume s can i l);
+            ap (λ ls. map (λ x. x .d) (ofMeal (getD (s .jobs) i noJob) ls)) (feedPart-plan s)
+            ∙ Feed.parts-ofMeal (s .slots) (tanks s) (feedingsOf s) long rows (s .jobs) (own-lines s can v) i (place i l) ∙ ap (range 1) (feedings-volume s can i l);
+        one-blower = λ t tank l. rw (feedPart-plan s) (Feed.one-in-slot (s .slots) (tanks s) (feedingsOf s) long rows (s .jobs) (own-lines s can v) t tank l);
         in-day = λ l i. of-day l (rw (feedPart-plan s) at i);
       }
     where
@@ -221,15 +224,15 @@ module _ (s : Sheet) (v : ValuesInRange s (length (s .jobs)) true) (can : canBeP
         held = λ z. absurd (omega arith);
         plan-word = λ z. ap (take wordBytes) (e ∙ listing-plan s v can) ∙ word-plan s v can;
         plan = λ z.
-            subst (λ ls. SoundPlan s (stretchPart ls) (placingOn (s .slots) (tanks s) (feedPart ls))) (sym lines)
+            subst (λ ls. SoundPlan s (stretchPart ls) (placingOn (s .slots) (s .jobs) (feedPart ls))) (sym lines)
             (subst₂ (SoundPlan s) (sym (stretchPart-plan s)) (sym placing-on) (sound-plan s can));
         plan-lines = λ z.
-            subst (λ ls. LinesOf s ls (placingOn (s .slots) (tanks s) (feedPart ls))) (sym lines)
+            subst (λ ls. LinesOf s ls (placingOn (s .slots) (s .jobs) (feedPart ls))) (sym lines)
             (subst (LinesOf s (planLines (planOf s))) (sym placing-on) lines-of);
         marked = λ z.
             ap₂ (placingMarked (s .slots)) (sym (length-feedings s can)) (g ∙ ap (λ p. over p old) (grid-plan s v can))
             ∙ placingMarked-written (s .slots) (v .head .slots .le) (feedingsOf s) (feedings-rows s can) old
-            ∙ sym (ap (λ ls. placingOn (s .slots) (tanks s) (feedPart ls)) lines ∙ placing-on);
+            ∙ sym (ap (λ ls. placingOn (s .slots) (s .jobs) (feedPart ls)) lines ∙ placing-on);
       }
     where
       lines : linesOf listing ≡ planLines (planOf s)

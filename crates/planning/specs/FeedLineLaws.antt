@@ -1,7 +1,7 @@
--- The feed lines of a placing: those of a tank have the slots in which it is fed, rising, and the parts 1, 2, ..; those of a slot have the blowers
+-- The feed lines of a placing: those of a meal have the slots in which it is fed, rising, and the parts 1, 2, ..; those of a slot have the blowers
 -- 1, 2, .., as many as the slot's load. The placing is read back from them. Assumes nothing.
 use mathlib.Core.Path.{_≡_, refl, sym, ap, ap₂, _∙_}
-use mathlib.Core.Bool.{Bool, true, false, cond}
+use mathlib.Core.Bool.{Bool, true, false, cond, true≢false}
 use mathlib.Core.List.{List, [], _∷_, _++_, map, append-nil, List·Memᴰ, Memᴰ·cast}
 use Prim.Native.Nat.{ℕ, zero, suc, _+_, _*_, _≤_, _<_}
 use native.Mathlib.Nat.{suc-inj}
@@ -9,30 +9,27 @@ use native.Mathlib.Omega.{arith}
 use lib.Dec.{eqb}
 use lib.ListN.{length, getD, take, getD-replicate, length-map}
 use lib.Seq.{take-all, ext-getD}
-use borrow.Author.Tests.{eq-eqb, ne-eqb}
+use borrow.Author.Tests.{eq-eqb, ne-eqb, eqb-true, eqb-false}
 use Rattle.common.specs.Lists.{range, count, keep, flatMap, zipWith}
 use Rattle.common.specs.ListLaws.{range-snoc, flatMap-append}
+use Rattle.sheet.specs.Sheet.{Job}
 use Rattle.placing.specs.Slots.{Slots, has}
 use Rattle.placing.specs.Schedules.{Schedule, oneMore, load}
 use Rattle.placing.specs.Tabulate.{getD-zipWith, getD-map-below}
 use Rattle.placing.specs.AsFunctions.{Rows, length-load}
 use Rattle.placing.specs.ListLaws.{in-flatMap, in-keep}
+use Rattle.placing.specs.DemandLaws.{noJob}
 use Rattle.listing.specs.Lines.{Line, partAt, fedIn, feedLine, slotLines, feedLines, membersFrom}
-use Rattle.planning.specs.ReadListing.{slotSet, inSlot, ofTank, placingOn}
+use Rattle.planning.specs.ReadListing.{slotSet, inSlot, ofTank, isOf, ofMeal, placingOn}
 use Rattle.planning.specs.ListLaws.{in-range, flatMap-range-cong, flatMap-range-one, keep-all, keep-none, keep-flatMap, map-flatMap, in-zipWith}
 use Rattle.listing.specs.FeedLaws.{count-take, count-take-le}
 use Rattle.listing.specs.LengthLaws.{length-flatMap-range}
 use Rattle.planning.specs.SlotSetLaws.{slotSet-members, membersFrom-slots}
 
--- the tanks rise strictly, after a number
-abbrev pub Rising : ℕ → List ℕ → Type 0
-Rising before [] = Unit {0}
-Rising before (x ∷ xs) = (before < x) × Rising x xs
-
-rising-at : (a : ℕ) (xs : List ℕ) → Rising a xs → (i : ℕ) → i < length xs → a < getD xs i 0
-rising-at a [] h i l = absurd (omega arith)
-rising-at a (x ∷ xs) h zero l = h .0
-rising-at a (x ∷ xs) h (suc i) l = omega (arith, h .0, rising-at x xs (h .1) i (omega arith))
+-- A feeding's line is a line of its own meal, and of no other.
+pub record OwnLines (jobs : List Job) (tanks : List ℕ) (p : Schedule) : Type 0 where
+  pub own : (i t : ℕ) → i < length p → has (getD p i []) t ≡ true → isOf (getD jobs i noJob) (suc t) (getD tanks i 0) ≡ true
+  pub others : (i o t : ℕ) → i < length p → o < length p → (o ≡ i → ⊥) → has (getD p o []) t ≡ true → isOf (getD jobs i noJob) (suc t) (getD tanks o 0) ≡ false
 
 -- rations by their tanks and the slots in which they are fed
 abbrev rationRows : List ℕ → Schedule → List (ℕ × Slots)
@@ -76,55 +73,86 @@ length-fedIn slots t l (a ∷ tanks) (c ∷ p) e h =
     go true ih = ap suc ih
     go false ih = ih
 
--- The lines of a tank in one slot -----------------------------------------------------
+-- The lines of one slot that pass a test on the tank ----------------------------------------
 
--- tanks that rise after this one are others
-tank-before : (tank t k a : ℕ) (tanks : List ℕ) (p : Schedule) → tank ≤ a → Rising a tanks → ofTank tank (linesFrom t k (fedIn t (rationRows tanks p))) ≡ []
-unfolding ofTank fedIn feedLine
-tank-before tank t k a [] p l h = refl
-tank-before tank t k a (x ∷ tanks) [] l h = refl
-tank-before tank t k a (x ∷ tanks) (c ∷ p) l h = go (has c t) (λ k. tank-before tank t k x tanks p (omega (arith, h .0)) (h .1))
-  where
-    rest : List (ℕ × Slots)
-    rest = fedIn t (rationRows tanks p)
-
-    go : (b : Bool) → ((k : ℕ) → ofTank tank (linesFrom t k rest) ≡ []) → ofTank tank (linesFrom t k (cond b ((x, c) ∷ []) [] ++ rest)) ≡ []
-    go true ih = rw (ne-eqb x tank (λ e. omega (arith, h .0))) (ih (suc k))
-    go false ih = ih k
-
-module _ {A : Type 0} (g : Line → A) (h : ℕ → ℕ × Slots → A) (same : (t k : ℕ) (r : ℕ × Slots) → g (feedLine t k r) ≡ h t r) (t : ℕ) where
-  tank-slot : (k a : ℕ) (tanks : List ℕ) (p : Schedule) → Rising a tanks → length tanks ≡ length p → (i : ℕ) → i < length p
-      → map g (ofTank (getD tanks i 0) (linesFrom t k (fedIn t (rationRows tanks p))))
-      ≡ cond (has (getD p i []) t) (h t (getD tanks i 0, getD p i []) ∷ []) []
-  unfolding ofTank fedIn feedLine
-  tank-slot k a [] [] u e i l = absurd (omega arith)
-  tank-slot k a [] (c ∷ p) u e i l = absurd (omega arith)
-  tank-slot k a (x ∷ tanks) [] u e i l = absurd (omega arith)
-  tank-slot k a (x ∷ tanks) (c ∷ p) u e zero l = go (has c t)
+module _ (t : ℕ) (f : Line → Bool) (q : ℕ → Bool) (test : (k : ℕ) (r : ℕ × Slots) → f (feedLine t k r) ≡ q (r .0)) where
+  -- no line, where no fed ration's tank passes
+  lines-none : (k : ℕ) (tanks : List ℕ) (p : Schedule) → length tanks ≡ length p
+      → ((o : ℕ) → o < length p → has (getD p o []) t ≡ true → q (getD tanks o 0) ≡ false) → keep f (linesFrom t k (fedIn t (rationRows tanks p))) ≡ []
+  unfolding fedIn
+  lines-none k [] [] e h = refl
+  lines-none k [] (c ∷ p) e h = absurd (omega arith)
+  lines-none k (x ∷ tanks) [] e h = absurd (omega arith)
+  lines-none k (x ∷ tanks) (c ∷ p) e h = go (has c t) refl (λ k. lines-none k tanks p (suc-inj e) (λ o l. h (suc o) (omega arith)))
     where
       rest : List (ℕ × Slots)
       rest = fedIn t (rationRows tanks p)
 
-      none : (k : ℕ) → map g (ofTank x (linesFrom t k rest)) ≡ []
-      none k = ap (map g) (tank-before x t k x tanks p (omega arith) (u .1))
+      go : (b : Bool) → has c t ≡ b → ((k : ℕ) → keep f (linesFrom t k rest) ≡ []) → keep f (linesFrom t k (cond b ((x, c) ∷ []) [] ++ rest)) ≡ []
+      go true g ih = rw (test k (x, c), h zero (omega arith) g) (ih (suc k))
+      go false g ih = ih k
 
-      go : (b : Bool) → map g (ofTank x (linesFrom t k (cond b ((x, c) ∷ []) [] ++ rest))) ≡ cond b (h t (x, c) ∷ []) []
-      go true = rw (eq-eqb x x refl) (ap₂ (λ (y : A) (ys : List A). y ∷ ys) (same t k (x, c)) (none (suc k)))
-      go false = none k
-  tank-slot k a (x ∷ tanks) (c ∷ p) u e (suc i) l = go (has c t) (λ k. tank-slot k x tanks p (u .1) (suc-inj e) i (omega arith))
+  -- at most one line, where at most one fed ration's tank passes
+  lines-at-most-one : (k : ℕ) (tanks : List ℕ) (p : Schedule) → length tanks ≡ length p
+      → ((i o : ℕ) → i < length p → o < length p → has (getD p i []) t ≡ true → has (getD p o []) t ≡ true → q (getD tanks i 0) ≡ true → q (getD tanks o 0) ≡ true → o ≡ i)
+      → length (keep f (linesFrom t k (fedIn t (rationRows tanks p)))) ≤ 1
+  unfolding fedIn
+  lines-at-most-one k [] [] e h = omega arith
+  lines-at-most-one k [] (c ∷ p) e h = absurd (omega arith)
+  lines-at-most-one k (x ∷ tanks) [] e h = absurd (omega arith)
+  lines-at-most-one k (x ∷ tanks) (c ∷ p) e h =
+      go (has c t) refl (q x) refl (λ k. lines-at-most-one k tanks p (suc-inj e) (λ i o l m a b y z. suc-inj (h (suc i) (suc o) (omega arith) (omega arith) a b y z)))
     where
       rest : List (ℕ × Slots)
       rest = fedIn t (rationRows tanks p)
 
-      tank : ℕ
-      tank = getD tanks i 0
+      -- after a line that passes there is none
+      none : has c t ≡ true → q x ≡ true → (k : ℕ) → keep f (linesFrom t k rest) ≡ []
+      none g y k = lines-none k tanks p (suc-inj e) (λ o l a. other o l a (q (getD tanks o 0)) refl)
+        where
+          other : (o : ℕ) → o < length p → has (getD p o []) t ≡ true → (b : Bool) → q (getD tanks o 0) ≡ b → b ≡ false
+          other o l a true z = absurd (omega (arith, h zero (suc o) (omega arith) (omega arith) g a y z))
+          other o l a false z = refl
 
-      goal : List A
-      goal = cond (has (getD p i []) t) (h t (tank, getD p i []) ∷ []) []
+      go : (b : Bool) → has c t ≡ b → (d : Bool) → q x ≡ d → ((k : ℕ) → length (keep f (linesFrom t k rest)) ≤ 1)
+          → length (keep f (linesFrom t k (cond b ((x, c) ∷ []) [] ++ rest))) ≤ 1
+      go true g true y ih = rw (test k (x, c), y, none g y (suc k)) (omega arith)
+      go true g false y ih = rw (test k (x, c), y) (ih (suc k))
+      go false g d y ih = ih k
 
-      go : (b : Bool) → ((k : ℕ) → map g (ofTank tank (linesFrom t k rest)) ≡ goal) → map g (ofTank tank (linesFrom t k (cond b ((x, c) ∷ []) [] ++ rest))) ≡ goal
-      go true ih = rw (ne-eqb x tank (λ q. omega (arith, rising-at x tanks (u .1) i (omega (arith, e))))) (ih (suc k))
-      go false ih = ih k
+  -- the line of one ration, where no other fed ration's tank passes
+  module _ {A : Type 0} (g : Line → A) (h : ℕ × Slots → A) (same : (k : ℕ) (r : ℕ × Slots) → g (feedLine t k r) ≡ h r) where
+    lines-one : (k : ℕ) (tanks : List ℕ) (p : Schedule) → length tanks ≡ length p → (i : ℕ) → i < length p
+        → (has (getD p i []) t ≡ true → q (getD tanks i 0) ≡ true)
+        → ((o : ℕ) → o < length p → (o ≡ i → ⊥) → has (getD p o []) t ≡ true → q (getD tanks o 0) ≡ false)
+        → map g (keep f (linesFrom t k (fedIn t (rationRows tanks p)))) ≡ cond (has (getD p i []) t) (h (getD tanks i 0, getD p i []) ∷ []) []
+    unfolding fedIn
+    lines-one k [] [] e i l own others = absurd (omega arith)
+    lines-one k [] (c ∷ p) e i l own others = absurd (omega arith)
+    lines-one k (x ∷ tanks) [] e i l own others = absurd (omega arith)
+    lines-one k (x ∷ tanks) (c ∷ p) e zero l own others = go (has c t) refl
+      where
+        rest : List (ℕ × Slots)
+        rest = fedIn t (rationRows tanks p)
+
+        none : (k : ℕ) → map g (keep f (linesFrom t k rest)) ≡ []
+        none k = ap (map g) (lines-none k tanks p (suc-inj e) (λ o l. others (suc o) (omega arith) (λ z. omega arith)))
+
+        go : (b : Bool) → has c t ≡ b → map g (keep f (linesFrom t k (cond b ((x, c) ∷ []) [] ++ rest))) ≡ cond b (h (x, c) ∷ []) []
+        go true z = rw (test k (x, c), own z) (ap₂ (λ (y : A) (ys : List A). y ∷ ys) (same k (x, c)) (none (suc k)))
+        go false z = none k
+    lines-one k (x ∷ tanks) (c ∷ p) e (suc i) l own others =
+        go (has c t) refl (λ k. lines-one k tanks p (suc-inj e) i (omega arith) own (λ o l n. others (suc o) (omega arith) (λ z. n (suc-inj z))))
+      where
+        rest : List (ℕ × Slots)
+        rest = fedIn t (rationRows tanks p)
+
+        goal : List A
+        goal = cond (has (getD p i []) t) (h (getD tanks i 0, getD p i []) ∷ []) []
+
+        go : (b : Bool) → has c t ≡ b → ((k : ℕ) → map g (keep f (linesFrom t k rest)) ≡ goal) → map g (keep f (linesFrom t k (cond b ((x, c) ∷ []) [] ++ rest))) ≡ goal
+        go true z ih = rw (test k (x, c), others zero (omega arith) (λ z. omega arith) z) (ih (suc k))
+        go false z ih = ih k
 
 -- Parts -------------------------------------------------------------------------------
 
@@ -167,14 +195,12 @@ module _ (slots : ℕ) (tanks : List ℕ) (p : Schedule) (long : length tanks �
   lines = feedLines slots tanks p
 
   -- by slot
-  pub blowers-inSlot : (t : ℕ) → t < slots → map (λ l. l .b) (inSlot (suc t) lines) ≡ range 1 (getD (load slots p) t 0)
+  in-slot : (t : ℕ) → t < slots → inSlot (suc t) lines ≡ linesFrom t 1 (fedIn t (rationRows tanks p))
   unfolding inSlot feedLines slotLines
-  blowers-inSlot t l =
-      ap (map (λ l. l .b)) (keep-flatMap (λ u. slotLines u (rationRows tanks p)) (λ l. eqb (l .a) (suc t)) (range 0 slots))
-      ∙ ap (map (λ l. l .b)) (flatMap-range-one (λ u. keep (λ l. eqb (l .a) (suc t)) (slotLines u (rationRows tanks p))) t other 0 slots (omega arith) (omega arith))
-      ∙ ap (map (λ l. l .b)) same
-      ∙ blowers-from t 1 (fedIn t (rationRows tanks p))
-      ∙ ap (range 1) (length-fedIn slots t l tanks p long rows)
+  in-slot t l =
+      keep-flatMap (λ u. slotLines u (rationRows tanks p)) (λ l. eqb (l .a) (suc t)) (range 0 slots)
+      ∙ flatMap-range-one (λ u. keep (λ l. eqb (l .a) (suc t)) (slotLines u (rationRows tanks p))) t other 0 slots (omega arith) (omega arith)
+      ∙ same
     where
       other : (u : ℕ) → (u ≡ t → ⊥) → keep (λ l. eqb (l .a) (suc t)) (slotLines u (rationRows tanks p)) ≡ []
       other u n =
@@ -183,6 +209,26 @@ module _ (slots : ℕ) (tanks : List ℕ) (p : Schedule) (long : length tanks �
 
       same : keep (λ l. eqb (l .a) (suc t)) (slotLines t (rationRows tanks p)) ≡ slotLines t (rationRows tanks p)
       same = keep-all (λ l. eqb (l .a) (suc t)) (slotLines t (rationRows tanks p)) (λ l m. eq-eqb (l .a) (suc t) (of-slot t (rationRows tanks p) l m))
+
+  pub blowers-inSlot : (t : ℕ) → t < slots → map (λ l. l .b) (inSlot (suc t) lines) ≡ range 1 (getD (load slots p) t 0)
+  blowers-inSlot t l =
+      ap (map (λ l. l .b)) (in-slot t l) ∙ blowers-from t 1 (fedIn t (rationRows tanks p)) ∙ ap (range 1) (length-fedIn slots t l tanks p long rows)
+
+  -- no tank has two lines in a slot
+  pub one-in-slot : (jobs : List Job) → OwnLines jobs tanks p → (t tank : ℕ) → t < slots → length (ofTank tank (inSlot (suc t) lines)) ≤ 1
+  unfolding ofTank feedLine
+  one-in-slot jobs apart t tank l =
+      rw (in-slot t l)
+      (lines-at-most-one t (λ l. eqb (l .c) tank) (λ a. eqb a tank) (λ k r. refl) 1 tanks p long
+      (λ i o m n a b y z. same i o m n a b (eqb-true (getD tanks i 0) tank y) (eqb-true (getD tanks o 0) tank z) (eqb o i) refl))
+    where
+      same : (i o : ℕ) → i < length p → o < length p → has (getD p i []) t ≡ true → has (getD p o []) t ≡ true → getD tanks i 0 ≡ tank → getD tanks o 0 ≡ tank
+          → (x : Bool) → eqb o i ≡ x → o ≡ i
+      same i o m n a b y z true e = eqb-true o i e
+      same i o m n a b y z false e =
+          absurd
+          (true≢false
+          (sym (apart .own i t m a) ∙ ap (isOf (getD jobs i noJob) (suc t)) (y ∙ sym z) ∙ apart .others i o t m n (eqb-false o i e) b))
 
   pub length-feedLines : (c : ℕ) → ((t : ℕ) → t < slots → getD (load slots p) t 0 ≤ c) → length lines ≤ slots * c
   unfolding feedLines slotLines
@@ -223,41 +269,45 @@ module _ (slots : ℕ) (tanks : List ℕ) (p : Schedule) (long : length tanks �
       let e = ap (λ (x : Line). x .a) (r .7) in
       (omega arith, omega (arith, r .3), Memᴰ·cast (ap (λ (x : Line). x .c) (r .7)) (r .6))
 
-  -- by tank
-  module _ (rise : Rising 0 tanks) (i : ℕ) (l : i < length p) where
-    abbrev tank : ℕ
-    tank = getD tanks i 0
+  -- by meal
+  module _ (jobs : List Job) (apart : OwnLines jobs tanks p) (i : ℕ) (l : i < length p) where
+    abbrev meal : Job
+    meal = getD jobs i noJob
 
     abbrev row : Slots
     row = getD p i []
 
     by-slot : {A : Type 0} (g : Line → A) (h : ℕ → ℕ × Slots → A) → ((t k : ℕ) (r : ℕ × Slots) → g (feedLine t k r) ≡ h t r)
-        → map g (ofTank tank lines) ≡ flatMap (λ t. cond (has row t) (h t (tank, row) ∷ []) []) (range 0 slots)
-    unfolding ofTank feedLines slotLines
+        → map g (ofMeal meal lines) ≡ flatMap (λ t. cond (has row t) (h t (getD tanks i 0, row) ∷ []) []) (range 0 slots)
+    unfolding ofMeal feedLines slotLines feedLine
     by-slot g h e =
-        ap (map g) (keep-flatMap (λ t. slotLines t (rationRows tanks p)) (λ l. eqb (l .c) tank) (range 0 slots))
-        ∙ map-flatMap (λ t. keep (λ l. eqb (l .c) tank) (slotLines t (rationRows tanks p))) g (range 0 slots)
-        ∙ flatMap-range-cong 0 slots (λ t a b. tank-slot g h e t 1 0 tanks p rise long i l)
+        ap (map g) (keep-flatMap (λ t. slotLines t (rationRows tanks p)) (λ l. isOf meal (l .a) (l .c)) (range 0 slots))
+        ∙ map-flatMap (λ t. keep (λ l. isOf meal (l .a) (l .c)) (slotLines t (rationRows tanks p))) g (range 0 slots)
+        ∙ flatMap-range-cong 0 slots
+        (λ t a b.
+        lines-one t (λ l. isOf meal (l .a) (l .c)) (isOf meal (suc t)) (λ k r. refl) g (h t) (e t) 1 tanks p long i l
+        (apart .own i t l)
+        (λ o m n. apart .others i o t l m n))
 
-    -- the slots of a tank's lines are those in which it is fed, rising
-    pub slots-ofTank : map (λ l. l .a) (ofTank tank lines) ≡ membersFrom 1 row
+    -- the slots of a meal's lines are those in which it is fed, rising
+    pub slots-ofMeal : map (λ l. l .a) (ofMeal meal lines) ≡ membersFrom 1 row
     unfolding feedLine
-    slots-ofTank = by-slot (λ l. l .a) (λ t r. suc t) (λ t k r. refl) ∙ membersFrom-slots slots row (rows i l)
+    slots-ofMeal = by-slot (λ l. l .a) (λ t r. suc t) (λ t k r. refl) ∙ membersFrom-slots slots row (rows i l)
 
     -- and their parts are 1, 2, ..
-    pub parts-ofTank : map (λ l. l .d) (ofTank tank lines) ≡ range 1 (count row)
+    pub parts-ofMeal : map (λ l. l .d) (ofMeal meal lines) ≡ range 1 (count row)
     unfolding feedLine
-    parts-ofTank =
+    parts-ofMeal =
         by-slot (λ l. l .d) (λ t r. partAt t (r .1)) (λ t k r. refl)
         ∙ parts-before row slots
         ∙ ap (λ c. range 1 (count c)) (take-all slots row (omega (arith, rows i l)))
 
   -- the placing on the lines
-  pub placingOn-lines : Rising 0 tanks → placingOn slots tanks lines ≡ p
+  pub placingOn-lines : (jobs : List Job) → length jobs ≡ length p → OwnLines jobs tanks p → placingOn slots jobs lines ≡ p
   unfolding placingOn
-  placingOn-lines rise =
-      ext-getD [] _ p (length-map tanks _ ∙ long)
+  placingOn-lines jobs e apart =
+      ext-getD [] _ p (length-map jobs _ ∙ e)
       (λ i l.
-      let k : i < length tanks = omega (arith, length-map tanks (λ tank. slotSet slots (map (λ l. l .a) (ofTank tank lines)))) in
-      let j : i < length p = omega (arith, long) in
-      getD-map-below _ tanks i [] 0 k ∙ ap (slotSet slots) (slots-ofTank rise i j) ∙ slotSet-members slots (getD p i []) (rows i j))
+      let k : i < length jobs = omega (arith, length-map jobs (λ j. slotSet slots (map (λ l. l .a) (ofMeal j lines)))) in
+      let j : i < length p = omega (arith, e) in
+      getD-map-below _ jobs i [] noJob k ∙ ap (slotSet slots) (slots-ofMeal jobs apart i j) ∙ slotSet-members slots (getD p i []) (rows i j))

@@ -53,11 +53,11 @@ fit-stretchLines m q counts few day l i =
 -- Feed lines --------------------------------------------------------------------------
 
 tank-le : (s : Sheet) → ValuesInRange s (length (s .jobs)) true → (tank : ℕ) → List·Memᴰ tank (tanks s) → tank ≤ maxTank
-tank-le s v tank i = let r = Memᴰ·of-map (λ (j : Job). j .tank) (s .jobs) i in omega (arith, r .2, go 0 (s .jobs) (v .jobs) (r .0) (r .1))
+tank-le s v tank i = let r = Memᴰ·of-map (λ (j : Job). j .tank) (s .jobs) i in omega (arith, r .2, go 0 0 (s .jobs) (v .jobs) (r .0) (r .1))
   where
-    go : (before : ℕ) (js : List Job) → JobsInRange (s .slots) before js → (j : Job) → List·Memᴰ j js → j .tank ≤ maxTank
-    go before [] h j m = absurd (List·Memᴰ·not-nil m)
-    go before (x ∷ js) h j m = step (List·Memᴰ·cases-cons m) (go (x .tank) js (h .1) j)
+    go : (before until : ℕ) (js : List Job) → JobsInRange (s .slots) before until js → (j : Job) → List·Memᴰ j js → j .tank ≤ maxTank
+    go before until [] h j m = absurd (List·Memᴰ·not-nil m)
+    go before until (x ∷ js) h j m = step (List·Memᴰ·cases-cons m) (go (x .tank) (x .deadline) js (h .1) j)
       where
         step : (j ≡ x) ⊎ List·Memᴰ j js → (List·Memᴰ j js → j .tank ≤ maxTank) → j .tank ≤ maxTank
         step (inl e) ih = omega (arith, ap (λ (y : Job). y .tank) e, h .0 .tank .le)

@@ -68,7 +68,7 @@ gridFor s = elim (canBePlanned s) [ true ↦ gridOf (feedingsOf s) | false ↦ g
 unfoldable pub heldFaults : Sheet → List Refusal
 heldFaults s = fault 12 0 (not (canBePlanned s))
 
--- 1 to 9; then 10, a lent buffer that is too short; then 12
+-- 1 to 9 and 13; then 10, a lent buffer that is too short; then 12
 unfoldable pub planRefusal : List ℕ → Bool → Refusal
 planRefusal b short = firstRefusal (faults b ++ (fault 10 0 short ++ heldFaults (sheetOf b)))
 

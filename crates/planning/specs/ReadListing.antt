@@ -1,12 +1,13 @@
 -- How a listing is read: its lines as numbers, the slots that a held sheet's listing shows, and the stretches and the feedings of a plan's. No more is
 -- known here of a listing than its form. Definitions only. Assumes nothing.
+use mathlib.Core.Bool.{Bool, _&&_}
 use mathlib.Core.List.{List, map}
 use Prim.Native.Nat.{ℕ, _+_, _*_}
-use lib.Dec.{eqb}
+use lib.Dec.{eqb, leb}
 use lib.ListN.{getD, take, drop}
 use Rattle.common.specs.Lists.{range, any, keep}
 use Rattle.sheet.specs.Limits.{maxSlots}
-use Rattle.sheet.specs.Sheet.{Sheet, lineCount, lineAt, valueAt}
+use Rattle.sheet.specs.Sheet.{Job, Sheet, lineCount, lineAt, valueAt}
 use Rattle.placing.specs.Slots.{Slots}
 use Rattle.placing.specs.Schedules.{Schedule}
 use Rattle.stretches.specs.Intervals.{Interval}
@@ -66,17 +67,24 @@ stretchesOn ls k = map stretchOn (keep (λ l. eqb (l .a) k) ls)
 unfoldable pub inSlot : ℕ → List Line → List Line
 inSlot t = keep (λ l. eqb (l .a) t)
 
--- and those of a tank
+-- those of a tank
 unfoldable pub ofTank : ℕ → List Line → List Line
 ofTank tank = keep (λ l. eqb (l .c) tank)
+
+-- and those of a meal, which is a ration: a line of its tank with a slot of its window
+abbrev pub isOf : Job → (slot tank : ℕ) → Bool
+isOf j slot tank = eqb tank (j .tank) && (leb (j .release) slot && leb slot (j .deadline))
+
+unfoldable pub ofMeal : Job → List Line → List Line
+ofMeal j = keep (λ l. isOf j (l .a) (l .c))
 
 -- the tanks of a sheet's rations, in sheet order
 abbrev pub tanks : Sheet → List ℕ
 tanks s = map (λ j. j .tank) (s .jobs)
 
--- the placing on feed lines: for each tank, in sheet order, the slots on its lines
-unfoldable pub placingOn : (slots : ℕ) → (tanks : List ℕ) → List Line → Schedule
-placingOn slots tanks ls = map (λ tank. slotSet slots (map (λ l. l .a) (ofTank tank ls))) tanks
+-- the placing on feed lines: for each meal, in sheet order, the slots on its lines
+unfoldable pub placingOn : (slots : ℕ) → List Job → List Line → Schedule
+placingOn slots jobs ls = map (λ j. slotSet slots (map (λ l. l .a) (ofMeal j ls))) jobs
 
 -- A placing buffer ------------------------------------------------------------------
 

@@ -25,7 +25,7 @@ module _ (b : List ℕ) (short : Bool) where
   abbrev refusal : Refusal
   refusal = planRefusal b short
 
-  -- refused by 1 to 9
+  -- refused by 1 to 9 or 13
   pub refusal-read : {r : Reading} → r ≡ readingOf b → (r .number ≡ 0 → ⊥) → refusal ≡ record { number = r .number; line = r .line }
   unfolding planRefusal
   refusal-read e n = refused-before b _ e (fault 10 0 short ++ heldFaults (sheetOf b)) n

@@ -165,9 +165,9 @@ number-accepted : (b : List ℕ) → faults b ≡ [] → readingOf b .number ≡
 unfolding accepted
 number-accepted b f = ap (λ r. r .number) (readingOf-accepted b f)
 
--- a sheet refused by 1 to 9 is not held for want of blowers
+-- a sheet refused by 1 to 9 or 13 is not held for want of blowers
 refused-not-held : (b : List ℕ) (rest : List Refusal) → (readingOf b .number ≡ 0 → ⊥) → firstRefusal (faults b ++ rest) .number ≡ 12 → ⊥
-refused-not-held b rest k e = omega (arith, number-read b refl k, ap (λ r. r .number) (refused-before b (readingOf b) refl rest k), e)
+refused-not-held b rest k e = number-read b refl k (sym (ap (λ r. r .number) (refused-before b (readingOf b) refl rest k)) ∙ e)
 
 -- A comparison is held exactly where its first sheet is well-formed and has no sound placing, or the first can be planned and so holds of the second.
 pub comparison-held-iff : (a b : List ℕ)

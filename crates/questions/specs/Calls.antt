@@ -30,7 +30,7 @@ marked = map (λ x. eqb x 1)
 unfoldable pub marksFault : ℕ → List ℕ → Bool
 marksFault slots marks = not (eqb (length marks) slots) || not (every (map isMark marks))
 
--- 1 to 9, then 11
+-- 1 to 9 and 13, then 11
 unfoldable pub marksRefusal : List ℕ → List ℕ → Refusal
 marksRefusal b marks = firstRefusal (faults b ++ fault 11 0 (marksFault (sheetOf b .slots) marks))
 
@@ -54,7 +54,7 @@ shortfallOf b marks =
 unfoldable pub boundsFault : ℕ → List ℕ → List ℕ → Bool
 boundsFault slots lows highs = not (eqb (length lows) slots) || not (eqb (length highs) slots)
 
--- 1 to 9, then 11
+-- 1 to 9 and 13, then 11
 unfoldable pub boundsRefusal : List ℕ → List ℕ → List ℕ → Refusal
 boundsRefusal b lows highs = firstRefusal (faults b ++ fault 11 0 (boundsFault (sheetOf b .slots) lows highs))
 

@@ -3,7 +3,7 @@
 use Rattle.sheet.specs.Field.{isDigit, digits, zeroAlone, decimal, parse, numberOf, isFaulty}
 use Rattle.sheet.specs.Sheet.{lineCount, lineAt, fieldAt, valueAt, faultyFrom, faultyLine, jobAt, sheetOf}
 use Rattle.sheet.specs.Checks as Checks
-use Rattle.sheet.specs.Checks.{firstRefusal, lengthFaults, firstFaulty, formFaults, headFaults, tankFault, windowFault, volumeFault, jobFaults, jobsFaults, valueFaults, faults}
+use Rattle.sheet.specs.Checks.{firstRefusal, lengthFaults, firstFaulty, formFaults, headFaults, tankFault, windowFault, volumeFault, mealFault, jobFaults, jobsFaults, valueFaults, faults}
 use Rattle.placing.specs.Meanings.{meanings}
 use Rattle.placing.specs.Demands.{demandOf, demandsOf, noLow, fullHigh}
 use Rattle.questions.specs.Text.{text}
@@ -11,7 +11,7 @@ use Rattle.questions.specs.Calls.{isMark, marked, marksFault, marksRefus
 
 -- bytes to a sheet's numbers, or the first refusal
 unfoldable pub readings : Unit {0}
-unfolding isDigit digits zeroAlone decimal parse numberOf isFaulty lineCount lineAt fieldAt valueAt faultyFrom faultyLine jobAt sheetOf firstRefusal Checks.outside lengthFaults firstFaulty formFaults headFaults tankFault windowFault volumeFault jobFaults jobsFaults valueFaults faults
+unfolding isDigit digits zeroAlone decimal parse numberOf isFaulty lineCount lineAt fieldAt valueAt faultyFrom faultyLine jobAt sheetOf firstRefusal Checks.outside lengthFaults firstFaulty formFaults headFaults tankFault windowFault volumeFault mealFault jobFaults jobsFaults valueFaults faults
 readings = tt
 
 -- the calls, from text to answer

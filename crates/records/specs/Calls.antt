@@ -16,22 +16,22 @@ use Rattle.questions.specs.Calls.{marksFault, sheetShortfall, boundsFault, shee
 use Rattle.planning.specs.Planning.{heldFaults}
 use Rattle.records.specs.Records.{recordFaults}
 
--- writing: 3 to 9, then 10, a buffer that is too short for the sheet
+-- writing: 3 to 9 and 13, then 10, a buffer that is too short for the sheet
 unfoldable pub writeRefusalOf : Sheet → ℕ → Refusal
 writeRefusalOf s size = firstRefusal (recordFaults s ++ fault 10 0 (ltb size (lineBytes * suc (length (s .jobs)))))
 
--- planning: 3 to 9; then 10, a lent buffer that is too short; then 12
+-- planning: 3 to 9 and 13; then 10, a lent buffer that is too short; then 12
 unfoldable pub planRefusalOf : Sheet → Bool → Refusal
 planRefusalOf s short = firstRefusal (recordFaults s ++ (fault 10 0 short ++ heldFaults s))
 
--- the shortfall of marked slots: 3 to 9, then 11; number, line, and the shortfall, 0 on any refusal
+-- the shortfall of marked slots: 3 to 9 and 13, then 11; number, line, and the shortfall, 0 on any refusal
 unfoldable pub shortfallAt : List ℕ → Refusal → Sheet → ShortfallAnswer
 shortfallAt marks r s = record { number = r .number; line = r .line; shortfall = cond (eqb (r .number) 0) (sheetShortfall s marks) (pos 0) }
 
 unfoldable pub shortfallOfSheet : Sheet → List ℕ → ShortfallAnswer
 shortfallOfSheet s marks = shortfallAt marks (firstRefusal (recordFaults s ++ fault 11 0 (marksFault (s .slots) marks))) s
 
--- the bounds question: 3 to 9, then 11; number, line, and yes or no, no on any refusal
+-- the bounds question: 3 to 9 and 13, then 11; number, line, and yes or no, no on any refusal
 unfoldable pub boundsAt : List ℕ → List ℕ → Refusal → Sheet → BoundsAnswer
 boundsAt lows highs r s = record { number = r .number; line = r .line; yes = eqb (r .number) 0 && sheetFeasible s lows highs }
 

@@ -42,13 +42,13 @@ module _ (slots blowers wake : ℕ) (rs : List Ration) (h : maxRations < length 
   s = recordSheet slots blowers wake rs
 
   abbrev past : List Refusal
-  past = jobsFaults slots 2 0 (map jobOf rs) ++ more
+  past = jobsFaults slots 2 0 0 (map jobOf rs) ++ more
 
   crowded : recordFaults s ++ more ≡ headRefused slots blowers wake ++ past
   unfolding recordFaults valueFaults headFaults recordSheet
   crowded =
-      ap (λ x. (headOf x ++ jobsFaults slots 2 0 (map jobOf rs)) ++ more) (ap (λ n. ltb maxRations n || false) (length-map rs jobOf) ∙ ap (λ x. x || false) (lt-ltb maxRations (length rs) h))
-      ∙ append-assoc (headOf true) (jobsFaults slots 2 0 (map jobOf rs)) more
+      ap (λ x. (headOf x ++ jobsFaults slots 2 0 0 (map jobOf rs)) ++ more) (ap (λ n. ltb maxRations n || false) (length-map rs jobOf) ∙ ap (λ x. x || false) (lt-ltb maxRations (length rs) h))
+      ∙ append-assoc (headOf true) (jobsFaults slots 2 0 0 (map jobOf rs)) more
     where
       headOf : Bool → List Refusal
       headOf x = fault 3 1 (outside 1 maxSlots slots) ++ (fault 4 1 (outside 1 maxBlowers blowers) ++ (fault 5 1 (ltb maxWake wake) ++ fault 6 1 x))

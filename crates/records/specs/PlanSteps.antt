@@ -26,7 +26,7 @@ use Rattle.records.specs.TextLaws.{text-read, text-refusal}
 -- ---- over a text
 
 module _ {s : Sheet} {t : Text} (h : TextOf s t) (short : Bool) where
-  -- refused by 3 to 9: nothing is written
+  -- refused by 3 to 9 or 13: nothing is written
   module _ (n : t .number ≡ 0 → ⊥) where
     abbrev q : Refusal
     q = record { number = t .number; line = t .line }
@@ -35,9 +35,9 @@ module _ {s : Sheet} {t : Text} (h : TextOf s t) (short : Bool) where
     unfolding planRefusalOf
     refusal = h .refused n _
 
-    low : t .number ≤ 9
+    low : t .number ≡ 12 → ⊥
     unfolding recordFaults
-    low = omega (arith, of-values s (length (s .jobs)) true .le, ap (λ r. r .number) (ap firstRefusal (sym (append-nil (recordFaults s))) ∙ h .refused n []))
+    low z = of-values s (length (s .jobs)) true .not-held (ap (λ r. r .number) (ap firstRefusal (sym (append-nil (recordFaults s))) ∙ h .refused n []) ∙ z)
 
     silent : writes (t .number) ≡ false
     silent = silent-read (t .number) n low

@@ -16,7 +16,7 @@ jobOf r = record { tank = r .tank; release = r .first; deadline = r .last; volum
 unfoldable pub recordSheet : ℕ → ℕ → ℕ → List Ration → Sheet
 recordSheet slots blowers wake rations = record { slots = slots; blowers = blowers; wake = wake; jobs = map jobOf rations }
 
--- 3 to 9: n is the number of records, and so never differs from it
+-- 3 to 9 and 13: n is the number of records, and so never differs from it
 unfoldable pub recordFaults : Sheet → List Refusal
 recordFaults s = valueFaults s (length (s .jobs)) true
 

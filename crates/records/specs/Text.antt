@@ -17,7 +17,7 @@ textBytes = 1365
 pub record TextOf (s : Sheet) (t : Text) : Type 0 where
   pub long : length (t .bytes) ≡ textBytes
   pub within : t .length ≤ textBytes
-  -- a refusal by 3 to 9 comes before whatever a call checks after these
+  -- a refusal by 3 to 9 or 13 comes before whatever a call checks after these
   pub refused : (t .number ≡ 0 → ⊥) → (rest : List Refusal) → firstRefusal (recordFaults s ++ rest) ≡ record { number = t .number; line = t .line }
   pub accepted : t .number ≡ 0 → recordFaults s ≡ []
   pub text : t .number ≡ 0 → take (t .length) (t .bytes) ≡ writeSheet s

@@ -13,7 +13,7 @@ use Rattle.sheet.specs.declared.Reading.{Reading}
 use Rattle.sheet.specs.Limits.{fields, lineBytes}
 use Rattle.sheet.specs.Sheet.{Sheet, sheetOf, numbersOf, lineCount}
 use Rattle.sheet.specs.Checks.{firstRefusal, valueFaults, faults}
-use Rattle.sheet.specs.Calls.{padded, accepted, refused, readingOf, writeRefusal, sheetFrom, over, writtenOf, bufferAfter, lineOf, lookUp}
+use Rattle.sheet.specs.Calls.{padded, accepted, refused, readingOf, writeRefusal, sheetFrom, over, writtenOf, bufferAfter, tankLines, lookUp}
 use Rattle.sheet.specs.NumbersLaws.{length-numbersOf, jobsOf-numbersOf}
 use Rattle.sheet.specs.FaultLaws.{fault-false, append-nil-nil, numbered-faults}
 
@@ -99,7 +99,7 @@ bufferAfter-refused r s old h = rw (ne-eqb (r .number) 0 h)
 
 -- find -----------------------------------------------------------------------
 
-pub lookUp-accepted : (b : List ℕ) (tank : ℕ) → faults b ≡ [] → lookUp b tank ≡ lineOf b tank 1 (lineCount b - 1)
+pub lookUp-accepted : (b : List ℕ) (tank : ℕ) → faults b ≡ [] → lookUp b tank ≡ tankLines b tank 1 (lineCount b - 1)
 unfolding lookUp firstRefusal
 lookUp-accepted b tank e = rw e
 
@@ -112,14 +112,14 @@ pub faults-lookUp : (b : List ℕ) (tank : ℕ) → (lookUp b tank ≡ [] → �
 unfolding lookUp
 faults-lookUp b tank h = go (eqb (firstRefusal (faults b) .number) 0) refl h
   where
-    go : (t : Bool) → eqb (firstRefusal (faults b) .number) 0 ≡ t → (cond t (lineOf b tank 1 (lineCount b - 1)) [] ≡ [] → ⊥) → faults b ≡ []
+    go : (t : Bool) → eqb (firstRefusal (faults b) .number) 0 ≡ t → (cond t (tankLines b tank 1 (lineCount b - 1)) [] ≡ [] → ⊥) → faults b ≡ []
     go true q k = numbered-faults b (eqb-true (firstRefusal (faults b) .number) 0 q)
     go false q k = absurd (k refl)
 
-pub lookUp-none : (b : List ℕ) (tank : ℕ) → lineOf b tank 1 (lineCount b - 1) ≡ [] → lookUp b tank ≡ []
+pub lookUp-none : (b : List ℕ) (tank : ℕ) → tankLines b tank 1 (lineCount b - 1) ≡ [] → lookUp b tank ≡ []
 unfolding lookUp
 lookUp-none b tank e = go (eqb (firstRefusal (faults b) .number) 0)
   where
-    go : (t : Bool) → cond t (lineOf b tank 1 (lineCount b - 1)) [] ≡ []
+    go : (t : Bool) → cond t (tankLines b tank 1 (lineCount b - 1)) [] ≡ []
     go true = e
     go false = refl

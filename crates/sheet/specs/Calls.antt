@@ -7,6 +7,7 @@ use lib.ListN.{length, drop, replicate}
 use Rattle.sheet.specs.declared.Refusal.{Refusal}
 use Rattle.sheet.specs.declared.Reading.{Reading}
 use Rattle.sheet.specs.declared.Written.{Written}
+use Rattle.sheet.specs.declared.Part.{Part}
 use Rattle.sheet.specs.Limits.{lineBytes, maxRations, fields}
 use Rattle.sheet.specs.Sheet.{Job, Sheet, lineCount, lineAt, valueAt, sheetOf, writeSheet, numbersOf, jobsOf}
 use Rattle.sheet.specs.Checks.{fault, firstRefusal, valueFaults, faults}
@@ -48,7 +49,7 @@ readingOf b = cond (eqb (firstRefusal (faults b) .number) 0) (accepted (sheetOf 
 
 -- write ----------------------------------------------------------------------
 
--- 3 to 10: the values, then the buffer's size; the flat numbers are those of n rations or disagree with it
+-- 3 to 9, 13 and 10: the values, then the buffer's size; the flat numbers are those of n rations or disagree with it
 unfoldable pub writeRefusal : Sheet → ℕ → List ℕ → ℕ → Refusal
 writeRefusal s n numbers size =
     firstRefusal (valueFaults s n (eqb (fields * n) (length numbers)) ++ fault 10 0 (ltb size (lineBytes * suc n)))
@@ -70,11 +71,23 @@ bufferAfter r s old = cond (eqb (r .number) 0) (over (writeSheet s) old) old
 
 -- find -----------------------------------------------------------------------
 
--- the first of n lines from line i on whose first field is the tank; empty where there is none
-unfoldable pub lineOf : List ℕ → ℕ → ℕ → ℕ → List ℕ
-lineOf b tank i zero = []
-lineOf b tank i (suc n) = cond (eqb (valueAt (lineAt b i) 0) tank) (lineAt b i) (lineOf b tank (suc i) n)
+-- of n lines from line i on, those whose first field is the tank, one after the other
+unfoldable pub tankLines : List ℕ → ℕ → ℕ → ℕ → List ℕ
+tankLines b tank i zero = []
+tankLines b tank i (suc n) = cond (eqb (valueAt (lineAt b i) 0) tank) (lineAt b i) [] ++ tankLines b tank (suc i) n
 
--- the ration's line; empty where the sheet is refused or has no such tank
+-- all lines of the tank; nothing where the sheet is refused or has no such tank
 unfoldable pub lookUp : List ℕ → ℕ → List ℕ
-lookUp b tank = cond (eqb (firstRefusal (faults b) .number) 0) (lineOf b tank 1 (lineCount b - 1)) []
+lookUp b tank = cond (eqb (firstRefusal (faults b) .number) 0) (tankLines b tank 1 (lineCount b - 1)) []
+
+-- the first of n lines from line i on whose first field is the tank; the line after them where there is none
+unfoldable pub firstLine : List ℕ → ℕ → ℕ → ℕ → ℕ
+firstLine b tank i zero = i
+firstLine b tank i (suc n) = cond (eqb (valueAt (lineAt b i) 0) tank) i (firstLine b tank (suc i) n)
+
+-- where these lines are in the sheet: they are one part of it; 0 and 0 where there is none
+unfoldable pub placeOf : List ℕ → ℕ → Part
+placeOf b tank =
+    cond (eqb (length (lookUp b tank)) 0)
+    (record { start = 0; length = 0 })
+    (record { start = lineBytes * firstLine b tank 1 (lineCount b - 1); length = length (lookUp b tank) })

@@ -13,7 +13,7 @@ use Rattle.common.specs.ListLaws.{part-cons, part-none, part-front}
 use Rattle.sheet.specs.declared.Refusal.{Refusal}
 use Rattle.sheet.specs.Limits.{fields}
 use Rattle.sheet.specs.Sheet.{Job, jobsOf}
-use Rattle.sheet.specs.Checks.{fault, firstRefusal, tankFault, windowFault, volumeFault, jobFaults, jobsFaults}
+use Rattle.sheet.specs.Checks.{fault, firstRefusal, tankFault, windowFault, volumeFault, mealFault, jobFaults, jobsFaults}
 use Rattle.sheet.specs.FaultLaws.{numbered-jobFaults}
 use Rattle.sheet.specs.Parts.{job}
 
@@ -53,37 +53,43 @@ window-order slots release deadline e = go (leb 1 release) (leb release deadline
     go true false c p q e = absurd (true≢false e)
     go false b c p q e = absurd (true≢false e)
 
-module _ (slots line before tank release deadline volume : ℕ) where
-  pub refusal-7 : true ≡ tankFault before tank → record { number = 7; line = line } ≡ firstRefusal (jobFaults slots line before (job tank release deadline volume))
+module _ (slots line before until tank release deadline volume : ℕ) where
+  pub refusal-7 : true ≡ tankFault before tank → record { number = 7; line = line } ≡ firstRefusal (jobFaults slots line before until (job tank release deadline volume))
   unfolding jobFaults firstRefusal
   refusal-7 e = rw (← e)
 
   module _ (a : false ≡ tankFault before tank) where
     pub refusal-8 : true ≡ windowFault slots release deadline
-        → record { number = 8; line = line } ≡ firstRefusal (jobFaults slots line before (job tank release deadline volume))
+        → record { number = 8; line = line } ≡ firstRefusal (jobFaults slots line before until (job tank release deadline volume))
     unfolding jobFaults firstRefusal
     refusal-8 e = rw (← a, ← e)
 
     module _ (b : false ≡ windowFault slots release deadline) where
       pub refusal-9 : true ≡ volumeFault release deadline volume
-          → record { number = 9; line = line } ≡ firstRefusal (jobFaults slots line before (job tank release deadline volume))
+          → record { number = 9; line = line } ≡ firstRefusal (jobFaults slots line before until (job tank release deadline volume))
       unfolding jobFaults firstRefusal
       refusal-9 e = rw (← a, ← b, ← e)
 
-      pub refusal-none : false ≡ volumeFault release deadline volume
-          → record { number = 0; line = 0 } ≡ firstRefusal (jobFaults slots line before (job tank release deadline volume))
-      unfolding jobFaults firstRefusal
-      refusal-none e = rw (← a, ← b, ← e)
+      module _ (d : false ≡ volumeFault release deadline volume) where
+        pub refusal-13 : true ≡ mealFault before until tank release
+            → record { number = 13; line = line } ≡ firstRefusal (jobFaults slots line before until (job tank release deadline volume))
+        unfolding jobFaults firstRefusal
+        refusal-13 e = rw (← a, ← b, ← d, ← e)
+
+        pub refusal-none : false ≡ mealFault before until tank release
+            → record { number = 0; line = 0 } ≡ firstRefusal (jobFaults slots line before until (job tank release deadline volume))
+        unfolding jobFaults firstRefusal
+        refusal-none e = rw (← a, ← b, ← d, ← e)
 
 -- ---- line by line
 
 module _ (slots n : ℕ) (numbers : List ℕ) (h : fields * n ≤ length numbers) where
-  pub rations-begin : firstRefusal (jobsFaults slots 2 0 (jobsOf (take (fields * n) numbers))) ≡ firstRefusal (jobsFaults slots 2 0 (jobsOf (part (fields * 0) (fields * n) numbers)))
-  rations-begin = ap (λ xs. firstRefusal (jobsFaults slots 2 0 (jobsOf xs))) (part-front numbers (fields * n))
+  pub rations-begin : firstRefusal (jobsFaults slots 2 0 0 (jobsOf (take (fields * n) numbers))) ≡ firstRefusal (jobsFaults slots 2 0 0 (jobsOf (part (fields * 0) (fields * n) numbers)))
+  rations-begin = ap (λ xs. firstRefusal (jobsFaults slots 2 0 0 (jobsOf xs))) (part-front numbers (fields * n))
 
-  pub rations-end : (line before i : ℕ) → i ≡ n → record { number = 0; line = 0 } ≡ firstRefusal (jobsFaults slots line before (jobsOf (part (fields * i) (fields * n) numbers)))
+  pub rations-end : (line before until i : ℕ) → i ≡ n → record { number = 0; line = 0 } ≡ firstRefusal (jobsFaults slots line before until (jobsOf (part (fields * i) (fields * n) numbers)))
   unfolding jobsFaults jobsOf firstRefusal
-  rations-end line before i e = rw (e, part-none numbers (fields * n))
+  rations-end line before until i e = rw (e, part-none numbers (fields * n))
 
   module _ (i : ℕ) (l : i < n) where
     abbrev pub from : ℕ → List ℕ
@@ -109,20 +115,20 @@ module _ (slots n : ℕ) (numbers : List ℕ) (h : fields * n ≤ length numbers
         last : fields * i + 4 ≡ fields * (i + 1)
         last = omega arith
 
-    module _ (line before : ℕ) (r : Refusal)
-        (e : r ≡ firstRefusal (jobFaults slots line before (job (at (fields * i)) (at (fields * i + 1)) (at (fields * i + 2)) (at (fields * i + 3))))) where
+    module _ (line before until : ℕ) (r : Refusal)
+        (e : r ≡ firstRefusal (jobFaults slots line before until (job (at (fields * i)) (at (fields * i + 1)) (at (fields * i + 2)) (at (fields * i + 3))))) where
       -- the ration is refused
-      pub rations-hit : (r .number ≡ 0 → ⊥) → r ≡ firstRefusal (jobsFaults slots line before (jobsOf (from (fields * i))))
+      pub rations-hit : (r .number ≡ 0 → ⊥) → r ≡ firstRefusal (jobsFaults slots line before until (jobsOf (from (fields * i))))
       unfolding jobsFaults
       rations-hit n =
-          e ∙ first-left _ (jobsFaults slots (suc line) (at (fields * i)) (jobsOf (from (fields * (i + 1))))) (λ z. n (ap (λ x. x .number) e ∙ z))
-          ∙ ap (λ js. firstRefusal (jobsFaults slots line before js)) (sym jobs-next)
+          e ∙ first-left _ (jobsFaults slots (suc line) (at (fields * i)) (at (fields * i + 2)) (jobsOf (from (fields * (i + 1))))) (λ z. n (ap (λ x. x .number) e ∙ z))
+          ∙ ap (λ js. firstRefusal (jobsFaults slots line before until js)) (sym jobs-next)
 
       -- the ration passes
-      pub rations-miss : (next : ℕ) → next ≡ line + 1 → r .number ≡ 0 → firstRefusal (jobsFaults slots line before (jobsOf (from (fields * i))))
-          ≡ firstRefusal (jobsFaults slots next (at (fields * i)) (jobsOf (from (fields * (i + 1)))))
+      pub rations-miss : (next : ℕ) → next ≡ line + 1 → r .number ≡ 0 → firstRefusal (jobsFaults slots line before until (jobsOf (from (fields * i))))
+          ≡ firstRefusal (jobsFaults slots next (at (fields * i)) (at (fields * i + 2)) (jobsOf (from (fields * (i + 1)))))
       unfolding jobsFaults
       rations-miss next k z =
-          ap (λ js. firstRefusal (jobsFaults slots line before js)) jobs-next
-          ∙ first-right _ _ (numbered-jobFaults slots line before _ (sym (ap (λ x. x .number) e) ∙ z))
-          ∙ ap (λ k. firstRefusal (jobsFaults slots k (at (fields * i)) (jobsOf (from (fields * (i + 1)))))) (sym (k ∙ add-one line))
+          ap (λ js. firstRefusal (jobsFaults slots line before until js)) jobs-next
+          ∙ first-right _ _ (numbered-jobFaults slots line before until _ (sym (ap (λ x. x .number) e) ∙ z))
+          ∙ ap (λ k. firstRefusal (jobsFaults slots k (at (fields * i)) (at (fields * i + 2)) (jobsOf (from (fields * (i + 1)))))) (sym (k ∙ add-one line))

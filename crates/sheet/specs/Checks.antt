@@ -1,4 +1,4 @@
--- The checks 1 to 9 of "Sheets held", in their order. Each gives its refusal where its fault is there, and the first refusal is the answer.
+-- The checks 1 to 9 of "Sheets held" and 13 of request 102, in their order. Each gives its refusal where its fault is there, and the first refusal is the answer.
 -- Assumes nothing.
 use mathlib.Core.Bool.{Bool, true, false, _&&_, _||_, not, cond}
 use mathlib.Core.List.{List, [], _∷_, _++_}
@@ -43,9 +43,9 @@ headFaults s n agrees =
     ++ (fault 5 1 (ltb maxWake (s .wake))
     ++ fault 6 1 (ltb maxRations n || not agrees)))
 
--- 7: a tank outside 1 to 999, or not above the tank before it (0 before the first)
+-- 7: a tank outside 1 to 999, or below the tank before it (0 before the first)
 unfoldable pub tankFault : ℕ → ℕ → Bool
-tankFault before tank = outside 1 maxTank tank || leb tank before
+tankFault before tank = outside 1 maxTank tank || ltb tank before
 
 -- 8: a window that breaks 1 ≤ first ≤ last ≤ D
 unfoldable pub windowFault : ℕ → ℕ → ℕ → Bool
@@ -55,23 +55,28 @@ windowFault slots release deadline = not (leb 1 release && (leb release deadline
 unfoldable pub volumeFault : ℕ → ℕ → ℕ → Bool
 volumeFault release deadline volume = eqb volume 0 || ltb (suc deadline - release) volume
 
--- 7 to 9, of the ration on this line, after the tank before it
-unfoldable pub jobFaults : ℕ → ℕ → ℕ → Job → List Refusal
-jobFaults slots line before j =
+-- 13: a meal of the tank before that begins at or before the last slot of the window before it, `until`
+unfoldable pub mealFault : ℕ → ℕ → ℕ → ℕ → Bool
+mealFault before until tank release = eqb tank before && leb release until
+
+-- 7 to 9, then 13, of the ration on this line, after the tank and the last slot of the one before it
+unfoldable pub jobFaults : ℕ → ℕ → ℕ → ℕ → Job → List Refusal
+jobFaults slots line before until j =
     fault 7 line (tankFault before (j .tank))
     ++ (fault 8 line (windowFault slots (j .release) (j .deadline))
-    ++ fault 9 line (volumeFault (j .release) (j .deadline) (j .volume)))
+    ++ (fault 9 line (volumeFault (j .release) (j .deadline) (j .volume))
+    ++ fault 13 line (mealFault before until (j .tank) (j .release))))
 
 -- line by line
-unfoldable pub jobsFaults : ℕ → ℕ → ℕ → List Job → List Refusal
-jobsFaults slots line before [] = []
-jobsFaults slots line before (j ∷ js) = jobFaults slots line before j ++ jobsFaults slots (suc line) (j .tank) js
+unfoldable pub jobsFaults : ℕ → ℕ → ℕ → ℕ → List Job → List Refusal
+jobsFaults slots line before until [] = []
+jobsFaults slots line before until (j ∷ js) = jobFaults slots line before until j ++ jobsFaults slots (suc line) (j .tank) (j .deadline) js
 
--- 3 to 9: the head line is line 1, and the first ration's is line 2
+-- 3 to 9 and 13: the head line is line 1, and the first ration's is line 2, with no tank before it
 unfoldable pub valueFaults : Sheet → ℕ → Bool → List Refusal
-valueFaults s n agrees = headFaults s n agrees ++ jobsFaults (s .slots) 2 0 (s .jobs)
+valueFaults s n agrees = headFaults s n agrees ++ jobsFaults (s .slots) 2 0 0 (s .jobs)
 
--- 1 to 9, of a sheet's bytes
+-- 1 to 9 and 13, of a sheet's bytes
 unfoldable pub faults : List ℕ → List Refusal
 faults b =
     let n : ℕ = valueAt (lineAt b 0) 3 in

@@ -9,7 +9,7 @@ use lib.ListN.{length}
 use Rattle.sheet.specs.declared.Refusal.{Refusal}
 use Rattle.sheet.specs.Limits.{lineBytes, maxBytes, maxSlots, maxBlowers, maxWake, maxRations}
 use Rattle.sheet.specs.Sheet.{Job, Sheet, lineCount, lineAt, valueAt, sheetOf}
-use Rattle.sheet.specs.Checks.{fault, firstRefusal, outside, lengthFaults, firstFaulty, formFaults, headFaults, tankFault, windowFault, volumeFault, jobFaults, jobsFaults, valueFaults, faults}
+use Rattle.sheet.specs.Checks.{fault, firstRefusal, outside, lengthFaults, firstFaulty, formFaults, headFaults, tankFault, windowFault, volumeFault, mealFault, jobFaults, jobsFaults, valueFaults, faults}
 
 pub fault-false : (number line : ℕ) {t : Bool} → t ≡ false → fault number line t ≡ []
 fault-false number line e = ap (fault number line) e
@@ -52,22 +52,23 @@ numbered-headFaults s n agrees =
     (numbered-before 4 1 (outside 1 maxBlowers (s .blowers)) (omega arith)
     (numbered-before 5 1 (ltb maxWake (s .wake)) (omega arith) (numbered-fault 6 1 (ltb maxRations n || not agrees) (omega arith))))
 
-pub numbered-jobFaults : (slots line before : ℕ) (j : Job) → Numbered (jobFaults slots line before j)
+pub numbered-jobFaults : (slots line before until : ℕ) (j : Job) → Numbered (jobFaults slots line before until j)
 unfolding jobFaults
-numbered-jobFaults slots line before j =
+numbered-jobFaults slots line before until j =
     numbered-before 7 line (tankFault before (j .tank)) (omega arith)
     (numbered-before 8 line (windowFault slots (j .release) (j .deadline)) (omega arith)
-    (numbered-fault 9 line (volumeFault (j .release) (j .deadline) (j .volume)) (omega arith)))
+    (numbered-before 9 line (volumeFault (j .release) (j .deadline) (j .volume)) (omega arith)
+    (numbered-fault 13 line (mealFault before until (j .tank) (j .release)) (omega arith))))
 
-pub numbered-jobsFaults : (slots line before : ℕ) (js : List Job) → Numbered (jobsFaults slots line before js)
+pub numbered-jobsFaults : (slots line before until : ℕ) (js : List Job) → Numbered (jobsFaults slots line before until js)
 unfolding jobsFaults
-numbered-jobsFaults slots line before [] = λ e. refl
-numbered-jobsFaults slots line before (j ∷ js) =
-    numbered-append (jobFaults slots line before j) _ (numbered-jobFaults slots line before j) (numbered-jobsFaults slots (suc line) (j .tank) js)
+numbered-jobsFaults slots line before until [] = λ e. refl
+numbered-jobsFaults slots line before until (j ∷ js) =
+    numbered-append (jobFaults slots line before until j) _ (numbered-jobFaults slots line before until j) (numbered-jobsFaults slots (suc line) (j .tank) (j .deadline) js)
 
 pub numbered-valueFaults : (s : Sheet) (n : ℕ) (agrees : Bool) → Numbered (valueFaults s n agrees)
 unfolding valueFaults
-numbered-valueFaults s n agrees = numbered-append (headFaults s n agrees) _ (numbered-headFaults s n agrees) (numbered-jobsFaults (s .slots) 2 0 (s .jobs))
+numbered-valueFaults s n agrees = numbered-append (headFaults s n agrees) _ (numbered-headFaults s n agrees) (numbered-jobsFaults (s .slots) 2 0 0 (s .jobs))
 
 pub numbered-faults : (b : List ℕ) → Numbered (faults b)
 unfolding faults lengthFaults formFaults

@@ -28,3 +28,4 @@ pub mod LineSteps
 pub mod CheckSteps
 pub mod ReadSteps
 pub mod WriteSteps
+pub mod FindSteps

@@ -62,3 +62,8 @@ pub record CanPutRations (out : List ℕ) (n : ℕ) (numbers : List ℕ) : Type 
   pub few : n ≤ maxRations
   pub there : fields * n ≤ length numbers
   pub room : lineBytes * (n + 1) ≤ length out
+
+-- the first of n lines from line i on whose first field is not the tank; the line after them where there is none
+unfoldable pub lineAfter : List ℕ → ℕ → ℕ → ℕ → ℕ
+lineAfter b tank i zero = i
+lineAfter b tank i (suc n) = cond (eqb (valueAt (lineAt b i) 0) tank) (lineAfter b tank (suc i) n) i

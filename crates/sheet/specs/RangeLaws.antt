@@ -1,15 +1,15 @@
--- The checks 3 to 9 find no fault exactly where every number is in its stated range and the tanks rise. Assumes nothing.
-use mathlib.Core.Path.{_≡_, refl}
-use mathlib.Core.Bool.{Bool, true, false, _&&_, _||_, not}
+-- The checks 3 to 9 and 13 find no fault exactly where every number is in its stated range, the tanks never fall, and the meals of a tank follow each other. Assumes nothing.
+use mathlib.Core.Path.{_≡_, refl, sym, ap, _∙_}
+use mathlib.Core.Bool.{Bool, true, false, _&&_, _||_, not, true≢false}
 use mathlib.Core.List.{List, [], _∷_}
-use Prim.Native.Nat.{ℕ, suc, _-_, _≤_, _<_}
+use Prim.Native.Nat.{ℕ, zero, suc, _-_, _≤_, _<_}
 use native.Mathlib.Omega.{arith}
 use lib.Dec.{leb, ltb, eqb}
-use lib.ListN.{length}
-use borrow.Author.Tests.{ltb-false, leb-true, leb-false, eqb-false, le-ltb, le-leb, lt-leb, ne-eqb, not-false}
+use lib.ListN.{length, getD}
+use borrow.Author.Tests.{ltb-false, leb-true, leb-false, eqb-false, le-ltb, le-leb, lt-leb, eq-eqb, eqb-true, ne-eqb, not-false}
 use Rattle.sheet.specs.Limits.{maxSlots, maxBlowers, maxWake, maxRations, maxTank}
 use Rattle.sheet.specs.Sheet.{Job, Sheet}
-use Rattle.sheet.specs.Checks.{fault, outside, headFaults, tankFault, windowFault, volumeFault, jobFaults, jobsFaults, valueFaults}
+use Rattle.sheet.specs.Checks.{fault, outside, headFaults, tankFault, windowFault, volumeFault, mealFault, jobFaults, jobsFaults, valueFaults}
 use Rattle.common.specs.Tests.{and-true, or-false}
 use Rattle.sheet.specs.FaultLaws.{false-fault, append-nil-nil, append-nil-parts}
 use Rattle.sheet.specs.SheetLaws.{FitsJobs, Fits}
@@ -58,82 +58,123 @@ headFaults-inRange s n agrees h =
     rw
     (outside-inRange 1 maxSlots (s .slots) (h .slots), outside-inRange 1 maxBlowers (s .blowers) (h .blowers), le-ltb maxWake (s .wake) (h .wake), le-ltb maxRations n (h .rations), h .agree)
 
--- 7 to 9 ----------------------------------------------------------------------------
+-- 7 to 9 and 13 ----------------------------------------------------------------------------
 
-pub record JobInRange (slots before : ℕ) (j : Job) : Type 0 where
+pub record JobInRange (slots before until : ℕ) (j : Job) : Type 0 where
   pub tank : InRange 1 maxTank (j .tank)
-  pub rising : before < j .tank
+  pub rising : before ≤ j .tank
   pub release : 1 ≤ j .release
   pub window : j .release ≤ j .deadline
   pub deadline : j .deadline ≤ slots
   pub volume : InRange 1 (suc (j .deadline) - j .release) (j .volume)
+  pub meal : j .tank ≡ before → until < j .release
 
--- each after the tank of the one before it
-abbrev pub JobsInRange : ℕ → ℕ → List Job → Type 0
-JobsInRange slots before [] = Unit {0}
-JobsInRange slots before (j ∷ js) = JobInRange slots before j × JobsInRange slots (j .tank) js
+-- each after the tank and the last slot of the one before it
+abbrev pub JobsInRange : ℕ → ℕ → ℕ → List Job → Type 0
+JobsInRange slots before until [] = Unit {0}
+JobsInRange slots before until (j ∷ js) = JobInRange slots before until j × JobsInRange slots (j .tank) (j .deadline) js
 
-pub inRange-jobFaults : (slots line before : ℕ) (j : Job) → jobFaults slots line before j ≡ [] → JobInRange slots before j
-unfolding jobFaults tankFault windowFault volumeFault
-inRange-jobFaults slots line before j e =
-    let h₇ = append-nil-parts (fault 7 line (outside 1 maxTank (j .tank) || leb (j .tank) before)) _ e in
+-- a meal without fault
+meal-follows : (before until tank release : ℕ) → (eqb tank before && leb release until) ≡ false → tank ≡ before → until < release
+meal-follows before until tank release e t = go (leb release until) refl (ap (λ x. x && leb release until) (sym (eq-eqb tank before t)) ∙ e)
+  where
+    go : (b : Bool) → leb release until ≡ b → b ≡ false → until < release
+    go true p q = absurd (true≢false q)
+    go false p q = leb-false release until p
+
+follows-meal : (before until tank release : ℕ) → (tank ≡ before → until < release) → (eqb tank before && leb release until) ≡ false
+follows-meal before until tank release h = go (eqb tank before) refl
+  where
+    go : (b : Bool) → eqb tank before ≡ b → (b && leb release until) ≡ false
+    go true e = lt-leb release until (h (eqb-true tank before e))
+    go false e = refl
+
+pub inRange-jobFaults : (slots line before until : ℕ) (j : Job) → jobFaults slots line before until j ≡ [] → JobInRange slots before until j
+unfolding jobFaults tankFault windowFault volumeFault mealFault
+inRange-jobFaults slots line before until j e =
+    let h₇ = append-nil-parts (fault 7 line (outside 1 maxTank (j .tank) || ltb (j .tank) before)) _ e in
     let h₈ = append-nil-parts (fault 8 line (not (leb 1 (j .release) && (leb (j .release) (j .deadline) && leb (j .deadline) slots)))) _ (h₇ .1) in
-    let t = or-false (outside 1 maxTank (j .tank)) (leb (j .tank) before) (false-fault 7 line _ (h₇ .0)) in
+    let h₉ = append-nil-parts (fault 9 line (eqb (j .volume) 0 || ltb (suc (j .deadline) - j .release) (j .volume))) _ (h₈ .1) in
+    let t = or-false (outside 1 maxTank (j .tank)) (ltb (j .tank) before) (false-fault 7 line _ (h₇ .0)) in
     let w = and-true (leb 1 (j .release)) _ (not-false _ (false-fault 8 line _ (h₈ .0))) in
     let x = and-true (leb (j .release) (j .deadline)) (leb (j .deadline) slots) (w .1) in
-    let v = or-false (eqb (j .volume) 0) (ltb (suc (j .deadline) - j .release) (j .volume)) (false-fault 9 line _ (h₈ .1)) in
+    let v = or-false (eqb (j .volume) 0) (ltb (suc (j .deadline) - j .release) (j .volume)) (false-fault 9 line _ (h₉ .0)) in
     let z : j .volume ≡ 0 → ⊥ = eqb-false (j .volume) 0 (v .0) in
     record {
       tank = inRange-outside 1 maxTank (j .tank) (t .0);
-      rising = leb-false (j .tank) before (t .1);
+      rising = ltb-false (j .tank) before (t .1);
       release = leb-true 1 (j .release) (w .0);
       window = leb-true (j .release) (j .deadline) (x .0);
       deadline = leb-true (j .deadline) slots (x .1);
       volume = record { ge = omega arith; le = ltb-false (suc (j .deadline) - j .release) (j .volume) (v .1) };
+      meal = meal-follows before until (j .tank) (j .release) (false-fault 13 line _ (h₉ .1));
     }
 
-pub jobFaults-inRange : (slots line before : ℕ) (j : Job) → JobInRange slots before j → jobFaults slots line before j ≡ []
-unfolding jobFaults tankFault windowFault volumeFault
-jobFaults-inRange slots line before j h =
+pub jobFaults-inRange : (slots line before until : ℕ) (j : Job) → JobInRange slots before until j → jobFaults slots line before until j ≡ []
+unfolding jobFaults tankFault windowFault volumeFault mealFault
+jobFaults-inRange slots line before until j h =
     rw
-    (outside-inRange 1 maxTank (j .tank) (h .tank), lt-leb (j .tank) before (h .rising), le-leb 1 (j .release) (h .release), le-leb (j .release) (j .deadline) (h .window), le-leb (j .deadline) slots (h .deadline), ne-eqb (j .volume) 0 (omega (arith, h .volume .ge)), le-ltb (suc (j .deadline) - j .release) (j .volume) (h .volume .le))
+    (outside-inRange 1 maxTank (j .tank) (h .tank), le-ltb (j .tank) before (h .rising), le-leb 1 (j .release) (h .release), le-leb (j .release) (j .deadline) (h .window), le-leb (j .deadline) slots (h .deadline), ne-eqb (j .volume) 0 (omega (arith, h .volume .ge)), le-ltb (suc (j .deadline) - j .release) (j .volume) (h .volume .le), follows-meal before until (j .tank) (j .release) (h .meal))
 
-pub inRange-jobsFaults : (slots line before : ℕ) (js : List Job) → jobsFaults slots line before js ≡ [] → JobsInRange slots before js
+pub inRange-jobsFaults : (slots line before until : ℕ) (js : List Job) → jobsFaults slots line before until js ≡ [] → JobsInRange slots before until js
 unfolding jobsFaults
-inRange-jobsFaults slots line before [] e = tt
-inRange-jobsFaults slots line before (j ∷ js) e =
-    let h = append-nil-parts (jobFaults slots line before j) (jobsFaults slots (suc line) (j .tank) js) e in
-    (inRange-jobFaults slots line before j (h .0), inRange-jobsFaults slots (suc line) (j .tank) js (h .1))
+inRange-jobsFaults slots line before until [] e = tt
+inRange-jobsFaults slots line before until (j ∷ js) e =
+    let h = append-nil-parts (jobFaults slots line before until j) (jobsFaults slots (suc line) (j .tank) (j .deadline) js) e in
+    (inRange-jobFaults slots line before until j (h .0), inRange-jobsFaults slots (suc line) (j .tank) (j .deadline) js (h .1))
 
-pub jobsFaults-inRange : (slots line before : ℕ) (js : List Job) → JobsInRange slots before js → jobsFaults slots line before js ≡ []
+pub jobsFaults-inRange : (slots line before until : ℕ) (js : List Job) → JobsInRange slots before until js → jobsFaults slots line before until js ≡ []
 unfolding jobsFaults
-jobsFaults-inRange slots line before [] h = refl
-jobsFaults-inRange slots line before (j ∷ js) h =
-    append-nil-nil (jobFaults-inRange slots line before j (h .0)) (jobsFaults-inRange slots (suc line) (j .tank) js (h .1))
+jobsFaults-inRange slots line before until [] h = refl
+jobsFaults-inRange slots line before until (j ∷ js) h =
+    append-nil-nil (jobFaults-inRange slots line before until j (h .0)) (jobsFaults-inRange slots (suc line) (j .tank) (j .deadline) js (h .1))
 
--- 3 to 9 ----------------------------------------------------------------------------
+-- Meals -----------------------------------------------------------------------------
+
+-- after a tank and a last slot no tank is below it, and its later meals begin after that slot
+meals-after : (slots before until : ℕ) (js : List Job) → JobsInRange slots before until js → (k : ℕ) → k < length js → (d : Job)
+    → (before ≤ getD js k d .tank) × (getD js k d .tank ≡ before → until < getD js k d .release)
+meals-after slots before until [] h k l d = absurd (omega arith)
+meals-after slots before until (j ∷ js) h zero l d = (h .0 .rising, h .0 .meal)
+meals-after slots before until (j ∷ js) h (suc k) l d =
+    let r = meals-after slots (j .tank) (j .deadline) js (h .1) k (omega arith) d in (
+      omega (arith, h .0 .rising, r .0),
+      λ e.
+          let t : j .tank ≡ before = omega (arith, h .0 .rising, r .0) in
+          omega (arith, h .0 .meal t, h .0 .window, r .1 (e ∙ sym t)),
+    )
+
+pub meals-follow : (slots before until : ℕ) (js : List Job) → JobsInRange slots before until js → (i k : ℕ) → i < k → k < length js → (d : Job)
+    → getD js i d .tank ≡ getD js k d .tank → getD js i d .deadline < getD js k d .release
+meals-follow slots before until [] h i k l m d e = absurd (omega arith)
+meals-follow slots before until (j ∷ js) h zero zero l m d e = absurd (omega arith)
+meals-follow slots before until (j ∷ js) h zero (suc k) l m d e = meals-after slots (j .tank) (j .deadline) js (h .1) k (omega arith) d .1 (sym e)
+meals-follow slots before until (j ∷ js) h (suc i) zero l m d e = absurd (omega arith)
+meals-follow slots before until (j ∷ js) h (suc i) (suc k) l m d e = meals-follow slots (j .tank) (j .deadline) js (h .1) i k (omega arith) (omega arith) d e
+
+-- 3 to 9 and 13 ----------------------------------------------------------------------------
 
 pub record ValuesInRange (s : Sheet) (n : ℕ) (agrees : Bool) : Type 0 where
   pub head : HeadInRange s n agrees
-  pub jobs : JobsInRange (s .slots) 0 (s .jobs)
+  pub jobs : JobsInRange (s .slots) 0 0 (s .jobs)
 
 pub inRange-valueFaults : (s : Sheet) (n : ℕ) (agrees : Bool) → valueFaults s n agrees ≡ [] → ValuesInRange s n agrees
 unfolding valueFaults
 inRange-valueFaults s n agrees e =
-    let h = append-nil-parts (headFaults s n agrees) (jobsFaults (s .slots) 2 0 (s .jobs)) e in
-    record { head = inRange-headFaults s n agrees (h .0); jobs = inRange-jobsFaults (s .slots) 2 0 (s .jobs) (h .1) }
+    let h = append-nil-parts (headFaults s n agrees) (jobsFaults (s .slots) 2 0 0 (s .jobs)) e in
+    record { head = inRange-headFaults s n agrees (h .0); jobs = inRange-jobsFaults (s .slots) 2 0 0 (s .jobs) (h .1) }
 
 pub valueFaults-inRange : (s : Sheet) (n : ℕ) (agrees : Bool) → ValuesInRange s n agrees → valueFaults s n agrees ≡ []
 unfolding valueFaults
-valueFaults-inRange s n agrees h = append-nil-nil (headFaults-inRange s n agrees (h .head)) (jobsFaults-inRange (s .slots) 2 0 (s .jobs) (h .jobs))
+valueFaults-inRange s n agrees h = append-nil-nil (headFaults-inRange s n agrees (h .head)) (jobsFaults-inRange (s .slots) 2 0 0 (s .jobs) (h .jobs))
 
 -- numbers in range have at most as many digits as a field has columns
-fitsJobs-inRange : (slots before : ℕ) (js : List Job) → slots ≤ maxSlots → JobsInRange slots before js → FitsJobs js
-fitsJobs-inRange slots before [] l h = tt
-fitsJobs-inRange slots before (j ∷ js) l h =
+fitsJobs-inRange : (slots before until : ℕ) (js : List Job) → slots ≤ maxSlots → JobsInRange slots before until js → FitsJobs js
+fitsJobs-inRange slots before until [] l h = tt
+fitsJobs-inRange slots before until (j ∷ js) l h =
     let r = h .0 in
     let v : j .volume ≤ slots = omega arith in
-    (record { tank = omega arith; release = omega arith; deadline = omega arith; volume = omega arith }, fitsJobs-inRange slots (j .tank) js l (h .1))
+    (record { tank = omega arith; release = omega arith; deadline = omega arith; volume = omega arith }, fitsJobs-inRange slots (j .tank) (j .deadline) js l (h .1))
 
 pub fits-inRange : (s : Sheet) → ValuesInRange s (length (s .jobs)) true → Fits s
 fits-inRange s h =
@@ -143,5 +184,5 @@ fits-inRange s h =
       blowers = omega arith;
       wake = omega arith;
       rations = omega arith;
-      jobs = fitsJobs-inRange (s .slots) 0 (s .jobs) (r .slots .le) (h .jobs);
+      jobs = fitsJobs-inRange (s .slots) 0 0 (s .jobs) (r .slots .le) (h .jobs);
     }

@@ -181,7 +181,7 @@ module _ (b : List ℕ) where
         same-head = rw (s₀, s₁, s₂, s₃)
 
         abbrev rest : List Refusal
-        rest = jobsFaults (sheetOf b .slots) 2 0 (sheetOf b .jobs)
+        rest = jobsFaults (sheetOf b .slots) 2 0 0 (sheetOf b .jobs)
 
         -- refused by 3 to 6
         pub head-refused : (h .number ≡ 0 → ⊥) → refused h ≡ readingOf b
@@ -206,16 +206,16 @@ module _ (b : List ℕ) where
           head-left = form-passed ∙ first-right (headFaults (sheetOf b) announced (eqb announced (lineCount b - 1))) rest (sym same-head ∙ none)
 
           module _ (n : ℕ) (c : n ≡ lineCount b - 1) (numbers : List ℕ) (g : numbers ≡ padded (fields * maxRations) (filled b n)) (r : Refusal)
-              (q : r ≡ firstRefusal (jobsFaults slots 2 0 (jobsOf (take (fields * n) numbers)))) where
+              (q : r ≡ firstRefusal (jobsFaults slots 2 0 0 (jobsOf (take (fields * n) numbers)))) where
             same-jobs : r ≡ firstRefusal rest
             unfolding sheetOf
             same-jobs =
-                q ∙ ap (λ xs. firstRefusal (jobsFaults slots 2 0 (jobsOf xs))) (ap (take (fields * n)) g ∙ take-padded b n)
-                ∙ ap (λ js. firstRefusal (jobsFaults slots 2 0 js)) (jobsOf-numbersOf (map (jobAt b) (range 1 n)))
-                ∙ ap (λ k. firstRefusal (jobsFaults slots 2 0 (map (jobAt b) (range 1 k)))) c
-                ∙ ap (λ k. firstRefusal (jobsFaults k 2 0 (map (jobAt b) (range 1 (lineCount b - 1))))) s₀
+                q ∙ ap (λ xs. firstRefusal (jobsFaults slots 2 0 0 (jobsOf xs))) (ap (take (fields * n)) g ∙ take-padded b n)
+                ∙ ap (λ js. firstRefusal (jobsFaults slots 2 0 0 js)) (jobsOf-numbersOf (map (jobAt b) (range 1 n)))
+                ∙ ap (λ k. firstRefusal (jobsFaults slots 2 0 0 (map (jobAt b) (range 1 k)))) c
+                ∙ ap (λ k. firstRefusal (jobsFaults k 2 0 0 (map (jobAt b) (range 1 (lineCount b - 1))))) s₀
 
-            -- refused by 7 to 9
+            -- refused by 7 to 9 or 13
             pub jobs-refused : (r .number ≡ 0 → ⊥) → refused r ≡ readingOf b
             jobs-refused k = answer-refused b r (same-jobs ∙ sym head-left) k
 

@@ -1,4 +1,4 @@
--- A sheet is well-formed, as the checks 1 to 9 have it, exactly where they find no fault. Assumes nothing.
+-- A sheet is well-formed, as the checks 1 to 9 and 13 have it, exactly where they find no fault. Assumes nothing.
 use mathlib.Core.Path.{_≡_, sym, ap, ap₂, subst, subst₂, _∙_}
 use mathlib.Core.Bool.{true, not}
 use mathlib.Core.List.{List, []}
@@ -46,7 +46,7 @@ none-formFaults b e =
     let z : firstFaulty b 0 (lineCount b) ≤ 0 = ltb-false 0 (firstFaulty b 0 (lineCount b)) (false-fault 2 (firstFaulty b 0 (lineCount b)) _ e) in
     λ k p q. none-firstFaulty b 0 (lineCount b) (omega arith) k p (omega arith)
 
--- checks 1 to 9
+-- checks 1 to 9 and 13
 pub valueFaults-wellFormed : (b : List ℕ) → WellFormed b → valueFaults (sheetOf b) (length (sheetOf b .jobs)) true ≡ []
 valueFaults-wellFormed b h = valueFaults-inRange (sheetOf b) (length (sheetOf b .jobs)) true (h .values)
 

@@ -17,13 +17,12 @@ use Rattle.sheet.specs.Limits.{width, fields, lineBytes, maxRations}
 use Rattle.sheet.specs.Field.{parse, numberOf}
 use Rattle.sheet.specs.Sheet.{Job, Sheet, lineAt, valueAt, lineCount, writeLine, writeJob, writeSheet, jobsOf}
 use Rattle.sheet.specs.Checks.{fault, firstRefusal, headFaults, jobsFaults, valueFaults, faults}
-use Rattle.sheet.specs.Calls.{writeRefusal, sheetFrom, over, writtenOf, bufferAfter, lineOf, lookUp, accepted, readingOf}
+use Rattle.sheet.specs.Calls.{writeRefusal, sheetFrom, over, writtenOf, bufferAfter}
 use Rattle.sheet.specs.NumbersLaws.{length-jobsOf}
 use Rattle.sheet.specs.LineLaws.{length-writeLine}
 use Rattle.sheet.specs.SheetLaws.{length-writeJob, length-writeSheet}
 use Rattle.sheet.specs.FaultLaws.{append-nil-parts, false-fault, numbered-append, numbered-fault, numbered-headFaults, numbered-jobsFaults, numbered-valueFaults}
 use Rattle.sheet.specs.RangeLaws.{HeadInRange, inRange-headFaults, inRange-valueFaults}
-use Rattle.sheet.specs.CallLaws.{readingOf-accepted, faults-readingOf, lookUp-accepted, lookUp-refused}
 use Rattle.sheet.specs.WellFormedLaws.{wellFormed-faults}
 use Rattle.sheet.specs.Parts.{putAt, head, job}
 use Rattle.sheet.specs.PutLaws.{putAt-append, length-putAt}
@@ -119,7 +118,7 @@ module _ (slots blowers wake rations size : ℕ) (numbers : List ℕ) (h : Refus
   heads = headFaults (head slots blowers wake) rations (eqb (fields * rations) (length numbers))
 
   abbrev jobs : List Refusal
-  jobs = jobsFaults slots 2 0 (jobsOf numbers)
+  jobs = jobsFaults slots 2 0 0 (jobsOf numbers)
 
   abbrev short : List Refusal
   short = fault 10 0 (ltb size (lineBytes * suc rations))
@@ -144,16 +143,16 @@ module _ (slots blowers wake rations size : ℕ) (numbers : List ℕ) (h : Refus
     left : writeRefusal sheet rations numbers size ≡ firstRefusal (jobs ++ short)
     left = all ∙ first-right heads (jobs ++ short) none
 
-    module _ (r : Refusal) (q : r ≡ firstRefusal (jobsFaults slots 2 0 (jobsOf (take (fields * rations) numbers)))) where
+    module _ (r : Refusal) (q : r ≡ firstRefusal (jobsFaults slots 2 0 0 (jobsOf (take (fields * rations) numbers)))) where
       whole : r ≡ firstRefusal jobs
-      whole = q ∙ ap (λ xs. firstRefusal (jobsFaults slots 2 0 (jobsOf xs))) (ap (λ k. take k numbers) write-agrees ∙ take-length numbers)
+      whole = q ∙ ap (λ xs. firstRefusal (jobsFaults slots 2 0 0 (jobsOf xs))) (ap (λ k. take k numbers) write-agrees ∙ take-length numbers)
 
       pub write-jobs : (r .number ≡ 0 → ⊥) → r ≡ writeRefusal sheet rations numbers size
       write-jobs n = whole ∙ first-left jobs short (λ y. n (ap (λ x. x .number) whole ∙ y)) ∙ sym left
 
       module _ (y : r .number ≡ 0) where
         last : writeRefusal sheet rations numbers size ≡ firstRefusal short
-        last = left ∙ first-right jobs short (numbered-jobsFaults slots 2 0 (jobsOf numbers) (sym (ap (λ x. x .number) whole) ∙ y))
+        last = left ∙ first-right jobs short (numbered-jobsFaults slots 2 0 0 (jobsOf numbers) (sym (ap (λ x. x .number) whole) ∙ y))
 
         pub write-short : size < lineBytes * (rations + 1) → record { number = 10; line = 0 } ≡ writeRefusal sheet rations numbers size
         unfolding firstRefusal
@@ -162,51 +161,6 @@ module _ (slots blowers wake rations size : ℕ) (numbers : List ℕ) (h : Refus
         pub write-passed : lineBytes * (rations + 1) ≤ size → record { number = 0; line = 0 } ≡ writeRefusal sheet rations numbers size
         unfolding firstRefusal
         write-passed l = sym (last ∙ rw (le-ltb size (lineBytes * suc rations) (omega arith)))
-
--- ---- look-up
-
-module _ (b : List ℕ) (tank i lines : ℕ) where
-  pub line-end : lines ≤ i → [] ≡ lineOf b tank i (lines - i)
-  unfolding lineOf
-  line-end h = sym (ap (lineOf b tank i) none)
-    where
-      none : lines - i ≡ zero
-      none = omega arith
-
-  module _ (h : i < lines) where
-    line-next : lineOf b tank i (lines - i) ≡ cond (eqb (valueAt (lineAt b i) 0) tank) (lineAt b i) (lineOf b tank (i + 1) (lines - (i + 1)))
-    unfolding lineOf
-    line-next =
-        ap (lineOf b tank i) count
-        ∙ ap (λ k. cond (eqb (valueAt (lineAt b i) 0) tank) (lineAt b i) (lineOf b tank k (lines - (i + 1)))) (sym (add-one i))
-      where
-        count : lines - i ≡ suc (lines - (i + 1))
-        count = omega arith
-
-    pub line-hit : valueAt (lineAt b i) 0 ≡ tank → lineAt b i ≡ lineOf b tank i (lines - i)
-    line-hit e = sym (line-next ∙ rw (eq-eqb (valueAt (lineAt b i) 0) tank e))
-
-    pub line-miss : (valueAt (lineAt b i) 0 ≡ tank → ⊥) → lineOf b tank i (lines - i) ≡ lineOf b tank (i + 1) (lines - (i + 1))
-    line-miss n = line-next ∙ rw (ne-eqb (valueAt (lineAt b i) 0) tank n)
-
--- the part of the sheet that is a line
-pub line-part : (b : List ℕ) (i : ℕ) → part (lineBytes * i) (lineBytes * i + lineBytes) b ≡ lineAt b i
-unfolding lineAt
-line-part b i = ap (λ n. take n (drop (lineBytes * i) b)) (size (lineBytes * i))
-  where
-    size : (k : ℕ) → (k + lineBytes) - k ≡ lineBytes
-    size k = omega arith
-
--- a sheet that was read without refusal has a line, and its tank's line is looked for among the ration lines
-pub lookUp-read : (b : List ℕ) (tank : ℕ) → readingOf b .number ≡ 0 → lineOf b tank 1 (lineCount b - 1) ≡ lookUp b tank
-lookUp-read b tank e = sym (lookUp-accepted b tank (faults-readingOf b e))
-
-pub lookUp-unread : (b : List ℕ) (tank : ℕ) → (readingOf b .number ≡ 0 → ⊥) → [] ≡ lookUp b tank
-unfolding accepted
-lookUp-unread b tank n = sym (lookUp-refused b tank (λ e. n (ap (λ r. r .number) (readingOf-accepted b e))))
-
-pub read-lines : (b : List ℕ) → readingOf b .number ≡ 0 → lineBytes ≤ length b
-read-lines b e = wellFormed-faults b (faults-readingOf b e) .size .ge
 
 -- ---- what the writer answers
 

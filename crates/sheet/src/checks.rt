@@ -1,4 +1,4 @@
-// The checks 3 to 9, on numbers.
+// The checks 3 to 9 and 13, on numbers.
 use crate::Refusal;
 use crate::limits::MAX_BLOWERS;
 use crate::limits::MAX_RATIONS;
@@ -10,7 +10,7 @@ ghost use Prim.Native.Nat.{ℕ, _+_, _*_, _≤_, _<_};
 ghost use lib.ListN.{length, take};
 ghost use Rattle.sheet.specs.Limits.{maxRations, fields};
 ghost use Rattle.sheet.specs.Sheet.{jobsOf};
-ghost use Rattle.sheet.specs.Checks.{firstRefusal, headFaults, tankFault, windowFault, volumeFault, jobFaults, jobsFaults};
+ghost use Rattle.sheet.specs.Checks.{firstRefusal, headFaults, tankFault, windowFault, volumeFault, mealFault, jobFaults, jobsFaults};
 ghost use Rattle.sheet.specs.Parts.{head, job};
 
 // 3 to 6: the head line's numbers.
@@ -51,7 +51,7 @@ fn tank_fault(before: u32, tank: u32) -> bool
     if MAX_TANK < tank {
         return true;
     }
-    tank <= before
+    tank < before
 }
 
 // 8: the window.
@@ -78,17 +78,28 @@ fn volume_fault(release: u32, deadline: u32, volume: u32) -> bool
     deadline - release + 1 < volume
 }
 
-// 7 to 9: one ration, on its line, after the tank before it.
+// 13: a meal of the tank before, against the last slot of the window before it.
+fn meal_fault(before: u32, until: u32, tank: u32, release: u32) -> bool
+    ensures { λ r. ⌜ r ≡ mealFault before until tank release ⌝ }
+{
+    if tank != before {
+        return false;
+    }
+    release <= until
+}
+
+// 7 to 9 and 13: one ration, on its line, after the tank and the last slot of the one before it.
 fn ration_refusal(
     slots: u32,
     line: u32,
     before: u32,
+    until: u32,
     tank: u32,
     release: u32,
     deadline: u32,
     volume: u32,
 ) -> Refusal
-    ensures { λ r. ⌜ r ≡ firstRefusal (jobFaults slots line before (job tank release deadline volume)) ⌝ }
+    ensures { λ r. ⌜ r ≡ firstRefusal (jobFaults slots line before until (job tank release deadline volume)) ⌝ }
 {
     if tank_fault(before, tank) {
         return Refusal { number: 7, line };
@@ -99,32 +110,39 @@ fn ration_refusal(
     if volume_fault(release, deadline, volume) {
         return Refusal { number: 9, line };
     }
+    if meal_fault(before, until, tank, release) {
+        return Refusal { number: 13, line };
+    }
     Refusal { number: 0, line: 0 }
 }
 
-// 7 to 9: n rations as flat numbers, four for each, line by line.
+// 7 to 9 and 13: n rations as flat numbers, four for each, line by line.
 pub fn rations_refusal(slots: u32, n: usize, numbers: &[u32]) -> Refusal
     requires { ⌜ (n ≤ maxRations) × (fields * n ≤ length (now numbers)) ⌝ }
-    ensures { λ r. ⌜ r ≡ firstRefusal (jobsFaults slots 2 0 (jobsOf (take (fields * n) (now (numbers .entry))))) ⌝ }
+    ensures { λ r. ⌜ r ≡ firstRefusal (jobsFaults slots 2 0 0 (jobsOf (take (fields * n) (now (numbers .entry))))) ⌝ }
 {
     let mut before = 0;
+    let mut until = 0;
     let mut i = 0;
     while i < n {
         let at = 4 * i;
         let tank = numbers[at];
+        let deadline = numbers[at + 2];
         let r = ration_refusal(
             slots,
             i as u32 + 2,
             before,
+            until,
             tank,
             numbers[at + 1],
-            numbers[at + 2],
+            deadline,
             numbers[at + 3],
         );
         if r.number != 0 {
             return r;
         }
         before = tank;
+        until = deadline;
         i += 1;
     }
     Refusal { number: 0, line: 0 }

@@ -1,36 +1,79 @@
 // Looking a tank up.
+use crate::Part;
 use crate::fields;
 use crate::limits::LINE;
 use crate::reader;
 ghost use mathlib.Core.Path.{_≡_};
 ghost use Prim.Native.Nat.{ℕ, _+_, _-_, _*_, _≤_, _<_};
 ghost use lib.ListN.{length};
+ghost use Rattle.common.specs.Lists.{part};
 ghost use Rattle.sheet.specs.Limits.{lineBytes};
-ghost use Rattle.sheet.specs.Calls.{lineOf, lookUp};
+ghost use Rattle.sheet.specs.Calls.{firstLine, lookUp, placeOf};
+ghost use Rattle.sheet.specs.Parts.{lineAfter};
 
-// The line of a tank among the ration lines.
-fn tank_line(b: &[u8], lines: usize, tank: u32) -> &[u8]
+// The first ration line of a tank, or the number of lines where there is none.
+fn first_line(b: &[u8], lines: usize, tank: u32) -> usize
     requires { ⌜ (1 ≤ lines) × (lineBytes * lines ≤ length (now b)) ⌝ }
-    ensures { λ r. ⌜ now r ≡ lineOf (now (b .entry)) tank 1 (lines - 1) ⌝ }
+    ensures { λ r. ⌜ r ≡ firstLine (now (b .entry)) tank 1 (lines - 1) ⌝ }
 {
     let mut i = 1;
     while i < lines {
-        let at = LINE * i;
-        if fields::field_number(b, at) == tank {
-            return &b[at..at + LINE];
+        if fields::field_number(b, LINE * i) == tank {
+            return i;
         }
         i += 1;
     }
-    &b[0..0]
+    lines
 }
 
-// The line of a tank, as a part of the sheet itself; empty where the sheet is refused or has no such tank.
-pub fn find(b: &[u8], tank: u32) -> &[u8]
-    ensures { λ r. ⌜ now r ≡ lookUp (now (b .entry)) tank ⌝ }
+// The first line from a line on that is not of the tank, or the number of lines.
+fn line_after(b: &[u8], lines: usize, tank: u32, first: usize) -> usize
+    requires { ⌜ (first ≤ lines) × (lineBytes * lines ≤ length (now b)) ⌝ }
+    ensures { λ r. ⌜ r ≡ lineAfter (now (b .entry)) tank first (lines - first) ⌝ }
+{
+    let mut i = first;
+    while i < lines {
+        if fields::field_number(b, LINE * i) != tank {
+            return i;
+        }
+        i += 1;
+    }
+    lines
+}
+
+// Where the lines of a tank are in the sheet: a part that is empty where the sheet is refused or has no such tank.
+pub fn place(b: &[u8], tank: u32) -> Part
+    ensures { λ r. ⌜ r ≡ placeOf (now (b .entry)) tank ⌝ }
+    ensures { λ r. ⌜ part (r .start) (r .start + r .length) (now (b .entry)) ≡ lookUp (now (b .entry)) tank ⌝ }
 {
     let sheet = reader::read(b);
     if sheet.number != 0 {
-        return &b[0..0];
+        return Part {
+            start: 0,
+            length: 0,
+        };
     }
-    tank_line(b, b.len() / LINE, tank)
+    let lines = b.len() / LINE;
+    let first = first_line(b, lines, tank);
+    let after = line_after(b, lines, tank, first);
+    if after == first {
+        return Part {
+            start: 0,
+            length: 0,
+        };
+    }
+    Part {
+        start: LINE * first,
+        length: LINE * (after - first),
+    }
+}
+
+// All lines of a tank, as one part of the sheet itself; empty where the sheet is refused or has no such tank.
+pub fn find(b: &[u8], tank: u32) -> &[u8]
+    ensures { λ r. ⌜ now r ≡ lookUp (now (b .entry)) tank ⌝ }
+{
+    let p = place(b, tank);
+    let start = p.start;
+    let end = start + p.length;
+    &b[start..end]
 }

@@ -1,7 +1,7 @@
 // The feed sheet: reading, writing, and looking a tank up.
 //
 // A sheet is ASCII text in lines of 21 bytes, four fields of five columns and byte 10. `read` gives the sheet's numbers or the first refusal of
-// the paper's checks 1 to 9, `write` makes a sheet's bytes from its numbers, and `find` hands back a tank's line. What is written is read back to the
+// the paper's checks 1 to 9 and 13, `write` makes a sheet's bytes from its numbers, and `find` hands back a tank's lines. What is written is read back to the
 // same numbers, and what is accepted is written back to the same bytes (specs/Theorems.antt).
 mod checks;
 mod fields;
@@ -12,6 +12,7 @@ mod reader;
 mod writer;
 
 pub use finder::find;
+pub use finder::place;
 pub use reader::read;
 pub use writer::write;
 
@@ -48,5 +49,12 @@ pub struct Reading {
 pub struct Written {
     pub number: u32,
     pub line: u32,
+    pub length: usize,
+}
+
+// Where a part of a sheet is: its first byte and its length.
+#[repr(C)]
+pub struct Part {
+    pub start: usize,
     pub length: usize,
 }

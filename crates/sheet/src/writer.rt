@@ -14,7 +14,7 @@ ghost use Rattle.sheet.specs.Sheet.{jobsOf, writeJob};
 ghost use Rattle.sheet.specs.Calls.{sheetFrom, writeRefusal, writtenOf, bufferAfter};
 ghost use Rattle.sheet.specs.Parts.{putAt, CanPutRations};
 
-// 3 to 10: the values, then the buffer's size.
+// 3 to 9, 13 and 10: the values, then the buffer's size.
 fn write_refusal(
     slots: u32,
     blowers: u32,

@@ -1,4 +1,4 @@
-// A tank looked up: `F length`, and the bytes of its line.
+// A tank looked up: `F length`, and the bytes of its lines.
 
 pub fn answer(sheet: &[u8], tank: u32) {
     let part = sheet::find(sheet, tank);

@@ -1,11 +1,12 @@
-//! Days by the program's whole output: those of document 01 and each refusal as they
-//! are written, days at the limits by digest. Then generated sheets of all sizes,
+//! Days by the program's whole output: those of document 01, days with several meals for
+//! a tank and each refusal as they are written, days at the limits by digest. Then generated sheets of all sizes,
 //! planned with both buffers: `D number line length`, the digest of the listing and that
 //! of the placing buffer. The payload is a sheet.
 
+use super::meals::{full_meal_days, meal_days};
 use super::sheets::{
     beyond_days, document_days, full_day, limit_days, refused_by, settled_days, text,
-    too_long_sheet,
+    too_long_sheet, SHEET_CHECKS,
 };
 use super::{digest, lent_buffer, Case};
 use crate::damage::damaged_sheet;
@@ -49,17 +50,24 @@ const SHARES: [Share; 3] = [
 const FULL_SHEETS: u32 = 60;
 const HELD_FULL_SHEETS: u32 = 40;
 
-/// Sheets whose whole output is written: the days of document 01, and those that each
-/// check refuses.
+/// Sheets whose whole output is written: the days of document 01, those with several
+/// meals, and those that each check refuses.
 fn small_sheets() -> Vec<Vec<u8>> {
-    let days = [document_days(), beyond_days()].concat();
+    let days = [document_days(), meal_days(), beyond_days()].concat();
     let days = days.iter().map(|lines| text(lines));
-    days.chain((1..=9).flat_map(refused_by)).collect()
+    let refused = SHEET_CHECKS.into_iter().flat_map(refused_by);
+    days.chain(refused).collect()
 }
 
 /// Sheets at the limits, and the longest that are refused.
 fn large_sheets() -> Vec<Vec<u8>> {
-    let days = [limit_days(), settled_days(), vec![full_day()]].concat();
+    let days = [
+        limit_days(),
+        settled_days(),
+        full_meal_days(),
+        vec![full_day()],
+    ]
+    .concat();
     let mut sheets: Vec<Vec<u8>> = days.iter().map(|lines| text(lines)).collect();
     sheets.push(too_long_sheet());
     sheets
@@ -166,5 +174,29 @@ mod tests {
             s.rations.len() == 64 && s.rations.iter().all(whole)
         };
         assert!(sheets.iter().filter(whole_day).count() > 12);
+    }
+
+    #[test]
+    fn planned_and_held_sheets_have_several_meals() {
+        let sheets: Vec<_> = generated_cases()
+            .iter()
+            .flat_map(|c| read(&c.payload))
+            .collect();
+        let next = |pair: &[Ration]| pair[0].tank == pair[1].tank;
+        let touching = |pair: &[Ration]| next(pair) && pair[0].last + 1 == pair[1].first;
+        let three = |meals: &[Ration]| meals[0].tank == meals[2].tank;
+        for held in [false, true] {
+            let sheets: Vec<&Sheet> = sheets
+                .iter()
+                .filter(|s| shown_set(s).is_some() == held)
+                .collect();
+            let count = |size: usize, has: &dyn Fn(&[Ration]) -> bool| {
+                let has = |s: &&&Sheet| s.rations.windows(size).any(has);
+                sheets.iter().filter(has).count()
+            };
+            assert!(count(2, &next) > 150);
+            assert!(count(2, &touching) > 100);
+            assert!(count(3, &three) > 50);
+        }
     }
 }

@@ -2,6 +2,7 @@
 //! a program that answers them one after another.
 
 pub mod days;
+mod meals;
 pub mod placing;
 pub mod plan;
 pub mod sheet;

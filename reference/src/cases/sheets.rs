@@ -1,7 +1,11 @@
-//! Sheets that several streams share: the days of document 01, days at the limits,
-//! and sheets that each of the checks 1 to 9 refuses.
+//! Sheets that several streams share: the days of document 01, days at the limits, and
+//! sheets that each check of a sheet refuses.
 
+use super::meals::{three_meals_day, touching_day};
 use crate::sheet::{line_text, LINE, LONGEST_SHEET};
+
+/// The numbers by which a sheet itself is refused.
+pub const SHEET_CHECKS: [u32; 10] = [1, 2, 3, 4, 5, 6, 7, 8, 9, 13];
 
 /// A sheet as its lines of four numbers, the head line first.
 pub type Lines = Vec<[u32; 4]>;
@@ -128,7 +132,8 @@ pub fn too_long_sheet() -> Vec<u8> {
     bytes
 }
 
-/// Sheets that check `number`, one of 1 to 9, refuses: the first day with a fault.
+/// Sheets that check `number`, one of `SHEET_CHECKS`, refuses: the first day with a fault,
+/// and days whose meals overlap.
 pub fn refused_by(number: u32) -> Vec<Vec<u8>> {
     let bytes = text(&first_day());
     let spoilt = |at: usize, byte: u8| {
@@ -156,9 +161,15 @@ pub fn refused_by(number: u32) -> Vec<Vec<u8>> {
         4 => changed(0, 1, &[0, 9]),
         5 => changed(0, 2, &[201]),
         6 => changed(0, 3, &[2, 4, 65]),
-        7 => [changed(1, 0, &[0, 1000]), changed(3, 0, &[2])].concat(),
+        7 => [changed(1, 0, &[0, 1000]), changed(3, 0, &[1])].concat(),
         8 => [changed(1, 1, &[0, 3]), changed(2, 2, &[5])].concat(),
         9 => [changed(2, 3, &[0]), changed(3, 3, &[3])].concat(),
+        13 => vec![
+            text(&with(first_day(), 2, 0, 1)),
+            text(&with(first_day(), 3, 0, 2)),
+            text(&with(touching_day(), 2, 1, 2)),
+            text(&with(three_meals_day(), 3, 1, 5)),
+        ],
         _ => panic!("no sheet is refused by number {number} alone"),
     }
 }
@@ -170,7 +181,7 @@ mod tests {
 
     #[test]
     fn each_check_refuses_its_sheets() {
-        for number in 1..=9 {
+        for number in SHEET_CHECKS {
             for bytes in refused_by(number) {
                 assert_eq!(read(&bytes).map_err(|r| r.number), Err(number));
             }

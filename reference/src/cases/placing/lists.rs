@@ -2,19 +2,21 @@
 //! sheets and faulty lists.
 
 use super::{bounds_case, shortfall_case, Case};
+use crate::cases::meals::{full_meal_days, meal_days, touching_day};
 use crate::cases::sheets::{
     beyond_days, day_of, document_days, first_day, held_day, idle_first_day, limit_days,
-    refused_by, settled_days, text, too_long_sheet, Lines,
+    refused_by, settled_days, text, too_long_sheet, Lines, SHEET_CHECKS,
 };
 
 pub fn shortfall_cases() -> Vec<Case> {
     let mut cases = Vec::new();
-    for lines in document_days() {
+    let short_days = meal_days().into_iter().filter(|lines| slots(lines) == 4);
+    for lines in document_days().into_iter().chain(short_days) {
         for marks in all_lists(slots(&lines), &[0, 1]) {
             cases.push(shortfall_case(&text(&lines), &marks));
         }
     }
-    for lines in [limit_days(), settled_days()].concat() {
+    for lines in [limit_days(), settled_days(), full_meal_days()].concat() {
         cases.push(shortfall_case(&text(&lines), &vec![1; slots(&lines)]));
     }
     for lines in settled_days() {
@@ -79,14 +81,18 @@ pub fn bounds_cases() -> Vec<Case> {
         cases.push(bounds_case(&text(&first_day()), &bound, &[2; 4]));
         cases.push(bounds_case(&text(&first_day()), &[0; 4], &bound));
         cases.push(bounds_case(&text(&first_day()), &bound, &bound));
+        // Of two meals each keeps to its own window.
+        cases.push(bounds_case(&text(&touching_day()), &bound, &[2; 4]));
+        cases.push(bounds_case(&text(&touching_day()), &[0; 4], &bound));
+        cases.push(bounds_case(&text(&touching_day()), &bound, &bound));
     }
-    for lines in document_days() {
+    for lines in [document_days(), meal_days()].concat() {
         let (day, m, sheet) = (slots(&lines), lines[0][1], text(&lines));
         for (low, high) in [(0, m), (m, m), (0, m + 1), (0, m - 1), (1, m)] {
             cases.push(bounds_case(&sheet, &vec![low; day], &vec![high; day]));
         }
     }
-    for lines in [limit_days(), settled_days()].concat() {
+    for lines in [limit_days(), settled_days(), full_meal_days()].concat() {
         let (day, m, sheet) = (slots(&lines), lines[0][1], text(&lines));
         for (low, high) in [(0, m), (1, m)] {
             cases.push(bounds_case(&sheet, &vec![low; day], &vec![high; day]));
@@ -165,10 +171,10 @@ fn wrong_lengths(day: usize) -> Vec<usize> {
         .collect()
 }
 
-/// Sheets that the checks 1 to 9 refuse.
+/// Sheets that the checks of a sheet refuse.
 fn refused_sheets() -> Vec<Vec<u8>> {
     let beyond = beyond_days().iter().map(|lines| text(lines)).collect();
-    let refused = (1..=9).map(refused_by);
+    let refused = SHEET_CHECKS.into_iter().map(refused_by);
     refused.chain([beyond]).flatten().collect()
 }
 

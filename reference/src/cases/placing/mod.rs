@@ -64,7 +64,7 @@ mod tests {
     fn every_answer_is_shown() {
         let answers: Vec<String> = cases().iter().map(answer).collect();
         for operation in ["S", "B"] {
-            for number in [0, 1, 2, 3, 4, 5, 6, 7, 8, 9, 11] {
+            for number in [0, 1, 2, 3, 4, 5, 6, 7, 8, 9, 11, 13] {
                 let start = format!("{operation} {number} ");
                 assert!(answers.iter().any(|a| a.starts_with(&start)), "{start}");
             }

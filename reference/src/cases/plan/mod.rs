@@ -74,14 +74,15 @@ mod tests {
     fn every_number_is_shown() {
         let small = |case: &&Case| case.payload.len() < 400;
         let answers: Vec<String> = cases().iter().filter(small).map(answer).collect();
-        for (operation, numbers) in [("P", 0..=12), ("G", 0..=12), ("B", 0..=12), ("N", 0..=9)] {
+        for (operation, numbers) in [("P", 0..=13), ("G", 0..=13), ("B", 0..=13), ("N", 0..=9)] {
             for number in numbers.filter(|&number| number != 11) {
                 let start = format!("{operation} {number} ");
                 assert!(answers.iter().any(|a| a.starts_with(&start)), "{start}");
             }
         }
         assert!(answers.contains(&"N 12 0 0\n".to_string()));
-        for number in [1, 2, 3, 4, 5, 6, 7, 8, 9, 12] {
+        assert!(answers.contains(&"N 13 3 0\n".to_string()));
+        for number in [1, 2, 3, 4, 5, 6, 7, 8, 9, 12, 13] {
             let start = format!("C {number} ");
             assert!(answers.iter().any(|a| a.starts_with(&start)), "{start}");
         }

@@ -1,9 +1,10 @@
 //! Planning with each combination of buffers, one byte too short, exact and longer.
 
 use super::{plan_case, Case};
+use crate::cases::meals::{full_meal_days, meal_days};
 use crate::cases::sheets::{
     beyond_days, document_days, full_day, limit_days, refused_by, settled_days, text,
-    too_long_sheet,
+    too_long_sheet, SHEET_CHECKS,
 };
 use crate::damage::damaged_sheet;
 use crate::draws::Draws;
@@ -19,7 +20,10 @@ pub fn cases() -> Vec<Case> {
     for lines in beyond_days() {
         cases.extend(all_buffers(&text(&lines)));
     }
-    for number in 1..=9 {
+    for lines in meal_days() {
+        cases.extend(exact_buffers(&text(&lines)));
+    }
+    for number in SHEET_CHECKS {
         for (i, sheet) in refused_by(number).iter().enumerate() {
             match i {
                 0 => cases.extend(all_buffers(sheet)),
@@ -28,7 +32,7 @@ pub fn cases() -> Vec<Case> {
         }
     }
     cases.push(plan_case(b'P', &[PLAN_BUFFER], &too_long_sheet()));
-    for lines in [limit_days(), settled_days()].concat() {
+    for lines in [limit_days(), settled_days(), full_meal_days()].concat() {
         cases.extend(exact_buffers(&text(&lines)));
     }
     cases.extend(generated_cases());

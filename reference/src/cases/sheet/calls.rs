@@ -1,59 +1,28 @@
-//! Look-ups, writes into buffers of several lengths, and generated sheets.
+//! Writes into buffers of several lengths, and generated sheets for every call.
 
+use super::meals::meal_sheets;
 use super::values::value_sheets;
 use super::{find_case, read_case, write_case, Case};
-use crate::cases::sheets::{first_day, full_day, held_day, text, with};
+use crate::cases::meals::touching_day;
+use crate::cases::sheets::{first_day, full_day};
 use crate::damage::{damage, damaged_sheet};
 use crate::draws::Draws;
-use crate::generate::{any_sheet, tight_sheet, FULL, SMALL};
+use crate::generate::{any_sheet, random_sheet, tight_sheet, FULL, MIDDLE, SMALL};
 use crate::sheet::LINE;
 
-pub fn find_cases() -> Vec<Case> {
-    let mut cases = Vec::new();
-    let sparse = vec![
-        [9, 2, 3, 4],
-        [3, 1, 4, 2],
-        [17, 2, 9, 5],
-        [500, 5, 5, 1],
-        [999, 9, 9, 1],
-    ];
-    for tank in [
-        0, 1, 2, 3, 4, 16, 17, 18, 499, 500, 998, 999, 1000, 65_539, 99_999,
-    ] {
-        cases.push(find_case(tank, text(&sparse)));
-    }
-    for tank in 0..=4 {
-        cases.push(find_case(tank, text(&first_day())));
-        cases.push(find_case(tank, text(&held_day())));
-        cases.push(find_case(tank, text(&[[3, 1, 4, 0]])));
-        // Refused sheets that hold the tank all the same.
-        for line in 1..=3 {
-            cases.push(find_case(tank, text(&with(first_day(), line, 3, 0))));
-            cases.push(find_case(tank, text(&with(first_day(), line, 0, 999))));
-        }
-        for (field, value) in [(0, 97), (1, 9), (2, 201), (3, 2), (3, 4)] {
-            cases.push(find_case(tank, text(&with(first_day(), 0, field, value))));
-        }
-        let bytes = text(&first_day());
-        let mut spoilt = bytes.clone();
-        spoilt[3 * LINE + 20] = 13;
-        cases.push(find_case(tank, spoilt));
-        cases.push(find_case(tank, &bytes[..bytes.len() - 1]));
-        cases.push(find_case(tank, &b""[..]));
-    }
-    for tank in [1, 15, 16, 17, 481, 496, 511, 946, 947, 961, 998, 999, 1000] {
-        cases.push(find_case(tank, text(&full_day())));
-    }
-    cases
-}
-
 /// Each value sheet written into a buffer one byte too short, exact, longer, and
-/// of no byte at all.
+/// of no byte at all; those of meals into one that is too short and into an exact one.
 pub fn write_cases() -> Vec<Case> {
     let mut cases = Vec::new();
     for lines in value_sheets() {
         let exact = LINE * lines.len();
         for length in [0, exact - 1, exact, exact + 1, exact + 40] {
+            cases.push(write_case(length, &lines.concat()));
+        }
+    }
+    for lines in meal_sheets() {
+        let exact = LINE * lines.len();
+        for length in [exact - 1, exact] {
             cases.push(write_case(length, &lines.concat()));
         }
     }
@@ -66,26 +35,28 @@ pub fn write_cases() -> Vec<Case> {
 
     // Values of the whole 32 bits in each place, also those that a narrower
     // number, or a product with 4 or 21, would take for small ones.
-    let day = first_day().concat();
-    for at in 0..day.len() {
-        let low = day[at];
-        for value in [
-            u32::MAX,
-            u32::MAX - 1,
-            u32::MAX - low,
-            1 << 31,
-            (1 << 31) + low,
-            (1 << 30) + low,
-            (1 << 16) + low,
-            (1 << 8) + low,
-            100_000,
-            99_999,
-        ] {
-            let mut changed = day.clone();
-            changed[at] = value;
-            cases.push(write_case(100, &changed));
+    for day in [first_day().concat(), touching_day().concat()] {
+        for at in 0..day.len() {
+            let low = day[at];
+            for value in [
+                u32::MAX,
+                u32::MAX - 1,
+                u32::MAX - low,
+                1 << 31,
+                (1 << 31) + low,
+                (1 << 30) + low,
+                (1 << 16) + low,
+                (1 << 8) + low,
+                100_000,
+                99_999,
+            ] {
+                let mut changed = day.clone();
+                changed[at] = value;
+                cases.push(write_case(100, &changed));
+            }
         }
     }
+    let day = first_day().concat();
     for n in [0, 1 << 30, 1 << 31, 3 << 30, u32::MAX, u32::MAX - 1] {
         cases.push(write_case(100, &[4, 2, 2, n]));
         cases.push(write_case(100, &[4, 2, 2, n, 1, 1, 1, 1]));
@@ -138,8 +109,11 @@ pub fn generated_cases() -> Vec<Case> {
         }
     }
     for round in 0..60 {
-        let limits = if round % 6 == 0 { FULL } else { SMALL };
-        let sheet = tight_sheet(&mut draws, limits);
+        let sheet = match round % 6 {
+            0 => tight_sheet(&mut draws, FULL),
+            1 | 2 => tight_sheet(&mut draws, SMALL),
+            _ => random_sheet(&mut draws, MIDDLE),
+        };
         let mut bytes = sheet.text();
         if round % 3 == 0 {
             damage(&mut draws, &mut bytes);
@@ -154,9 +128,17 @@ pub fn generated_cases() -> Vec<Case> {
         let n = sheet.rations.len() as u32;
         let mut numbers = vec![sheet.slots, sheet.blowers, sheet.wake, n];
         numbers.extend(sheet.flat_rations());
-        if round % 2 == 0 {
-            let at = draws.index(numbers.len());
-            numbers[at] = draws.below(100);
+        match round % 4 {
+            0 => {
+                let at = draws.index(numbers.len());
+                numbers[at] = draws.below(100);
+            }
+            // A ration takes the tank before it, whether its window allows that or not.
+            1 if n > 1 => {
+                let at = 4 * (2 + draws.index(n as usize - 1));
+                numbers[at] = numbers[at - 4];
+            }
+            _ => {}
         }
         let exact = LINE * (n as usize + 1);
         let length = exact + draws.index(4) - 1;

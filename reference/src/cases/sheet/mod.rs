@@ -3,7 +3,9 @@
 //! values listed in the payload into a lent buffer as long as the argument says.
 
 mod calls;
+mod finds;
 mod forms;
+mod meals;
 mod values;
 
 use super::sheets::text;
@@ -12,15 +14,13 @@ use crate::sheet::{find, read, write};
 
 /// All cases of this gate program.
 pub fn cases() -> Vec<Case> {
-    let mut cases: Vec<Case> = values::value_sheets()
-        .iter()
-        .map(|lines| read_case(text(lines)))
-        .collect();
+    let sheets = [values::value_sheets(), meals::meal_sheets()].concat();
+    let mut cases: Vec<Case> = sheets.iter().map(|lines| read_case(text(lines))).collect();
     cases.extend(forms::length_cases());
     cases.extend(forms::byte_cases());
     cases.extend(forms::field_cases());
     cases.extend(forms::form_fault_cases());
-    cases.extend(calls::find_cases());
+    cases.extend(finds::find_cases());
     cases.extend(calls::write_cases());
     cases.extend(calls::generated_cases());
     cases
@@ -105,6 +105,7 @@ fn write_case(buffer_length: usize, numbers: &[u32]) -> Case {
 mod tests {
     use super::*;
     use crate::cases::assert_streamed;
+    use crate::cases::meals::touching_day;
     use crate::cases::sheets::{first_day, with, Lines};
     use crate::sheet::LINE;
 
@@ -131,16 +132,18 @@ mod tests {
     #[test]
     fn every_refusal_is_shown() {
         let answers: Vec<String> = cases().into_iter().map(answer_text).collect();
-        for number in 0..=9 {
+        for number in [0, 1, 2, 3, 4, 5, 6, 7, 8, 9, 13] {
             let shown = |a: &String| a.starts_with(&format!("R {number} "));
             assert!(answers.iter().any(shown), "read {number}");
         }
-        for number in [0, 3, 4, 5, 6, 7, 8, 9, 10] {
+        for number in [0, 3, 4, 5, 6, 7, 8, 9, 10, 13] {
             let shown = |a: &String| a.starts_with(&format!("W {number} "));
             assert!(answers.iter().any(shown), "write {number}");
         }
-        assert!(answers.iter().any(|a| a.starts_with("F 0\n")));
-        assert!(answers.iter().any(|a| a.starts_with("F 21\n")));
+        for length in [0, 21, 42, 63, 64 * 21] {
+            let shown = |a: &String| a.starts_with(&format!("F {length}\n"));
+            assert!(answers.iter().any(shown), "find {length}");
+        }
     }
 
     #[test]
@@ -178,6 +181,28 @@ mod tests {
             refusal(&with(with(day.clone(), 2, 3, 0), 2, 1, 0)),
             "R 8 3\n"
         );
-        assert_eq!(refusal(&with(with(day, 3, 0, 2), 3, 1, 0)), "R 7 4\n");
+        assert_eq!(refusal(&with(with(day, 3, 0, 1), 3, 1, 0)), "R 7 4\n");
+    }
+
+    #[test]
+    fn meals_are_answered() {
+        let day = touching_day();
+        let refusal = |lines: &Lines| answer_text(read_case(text(lines)));
+        assert_eq!(
+            refusal(&day),
+            "R 0 0 4 2 2 3 5 1 2 1 5 3 4 1 6 1 4 2\nW 0 0 84 1\n"
+        );
+        assert_eq!(
+            answer_text(find_case(5, text(&day))),
+            "F 42\n    5    1    2    1\n    5    3    4    1\n"
+        );
+        let overlapping = with(day, 2, 1, 2);
+        assert_eq!(refusal(&overlapping), "R 13 3\n");
+        assert!(answer_text(write_case(83, &overlapping.concat())).starts_with("W 13 3 0\n"));
+        assert_eq!(answer_text(find_case(6, text(&overlapping))), "F 0\n");
+        // 8 and 9 come before it on its line, a later line's 7 after it.
+        assert_eq!(refusal(&with(overlapping.clone(), 2, 2, 5)), "R 8 3\n");
+        assert_eq!(refusal(&with(overlapping.clone(), 2, 3, 0)), "R 9 3\n");
+        assert_eq!(refusal(&with(overlapping, 3, 0, 4)), "R 13 3\n");
     }
 }

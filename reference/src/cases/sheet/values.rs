@@ -1,8 +1,9 @@
-//! Sheets in good form whose values are accepted, or at fault by checks 3 to 9.
+//! Sheets in good form whose values are accepted, or at fault by checks 3 to 9; where a
+//! tank is that of the line before, by check 13, of which there is more in `meals`.
 
 use crate::cases::sheets::{first_day, full_day, held_day, with, Lines};
 
-/// The sheets whose values are good, or at fault by checks 3 to 9 alone.
+/// The sheets whose values are good, or at fault by checks 3 to 9 and 13 alone.
 pub fn value_sheets() -> Vec<Lines> {
     let mut sheets = vec![first_day(), held_day(), full_day()];
     sheets.push(vec![[3, 1, 4, 0]]);
