@@ -8,9 +8,9 @@
  * pointer that is not null and is aligned will do), and bytes lent for writing must not overlap anything else lent to the same call. Beyond that nothing
  * is asked: whatever the bytes hold, the call returns and answers a number.
  *
- * Numbers: 0 is accepted. Any other is the refusal below, the first that applies in this order, and `line` is the line of the sheet that it names, from 1;
- * 0 where it names none. Every number but 0 and 12 changes no lent byte, and every further field of the answer is then 0; kiwimound_answer alone writes
- * the refusal too.
+ * Numbers: 0 is accepted. Any other is the refusal below, the first that applies in the order of the list, in which 7, 8, 9 and 13 go line by line; `line`
+ * is the line of the sheet that it names, from 1; 0 where it names none. Every number but 0 and 12 changes no lent byte, and every further field of the
+ * answer is then 0; kiwimound_answer alone writes the refusal too.
  */
 #ifndef KIWIMOUND_H
 #define KIWIMOUND_H
@@ -48,9 +48,10 @@ enum {
     KIWIMOUND_BAD_BLOWERS = 4,   /* blowers outside 1 to 8; line 1 */
     KIWIMOUND_BAD_WAKE = 5,      /* wake cost above 200; line 1 */
     KIWIMOUND_BAD_RATIONS = 6,   /* rations above 64, or not the number of ration lines; line 1 */
-    KIWIMOUND_BAD_TANK = 7,      /* a tank outside 1 to 999, or not above the tank before it; its line */
+    KIWIMOUND_BAD_TANK = 7,      /* a tank outside 1 to 999, or below the tank before it; its line */
     KIWIMOUND_BAD_WINDOW = 8,    /* a window that breaks 1 <= first <= last <= slots; its line */
     KIWIMOUND_BAD_VOLUME = 9,    /* a volume of 0 or above its window's length; its line */
+    KIWIMOUND_BAD_MEAL = 13,     /* a meal begins at or before the end of the same tank's preceding window; its line */
     KIWIMOUND_SHORT_BUFFER = 10, /* a lent buffer is too short; line 0 */
     KIWIMOUND_BAD_LIST = 11,     /* a list of bounds or marks is not one for each slot, or a mark is not 0 or 1; line 0 */
     KIWIMOUND_HELD = 12          /* the blowers do not suffice: no sound placing exists; line 0 */
@@ -66,7 +67,8 @@ typedef struct kiwimound_reading {
     uint32_t blowers;
     uint32_t wake;
     uint32_t rations;
-    uint32_t numbers[4 * 64]; /* for each ration, in sheet order: tank, first slot, last slot, volume; 0 after the last ration */
+    uint32_t numbers[4 * 64]; /* for each ration, in sheet order: tank, first slot, last slot, volume; 0 after the last ration. A tank may have several
+                               * rations, one after another: its meals */
 } kiwimound_reading;
 
 /* Of writing a sheet: the length of the sheet written, 0 on a refusal. */
@@ -112,44 +114,45 @@ typedef struct kiwimound_bounds_answer {
 
 /* Sheets ------------------------------------------------------------------------------------------------------------------------------------ */
 
-/* Reads a sheet: its numbers, or the first refusal of 1 to 9. Changes nothing. */
+/* Reads a sheet: its numbers, or the first refusal of 1 to 9 and 13. Changes nothing. */
 kiwimound_reading kiwimound_read(const uint8_t *sheet, size_t sheet_length);
 
 /* Writes a sheet. `rations` is the fourth number of the head line; `numbers` lends four numbers for each ration: tank, first slot, last slot, volume.
- * Refusals 3 to 9, in which a list that is not 4 * rations long is 6 and `line` is the line that the ration would have had, then 10 for `out` shorter
- * than KIWIMOUND_SHEET_BYTES(rations). Number 0 writes the sheet at the front of `out`; bytes after it keep their values. */
+ * Refusals 3 to 9 and 13, in which a list that is not 4 * rations long is 6 and `line` is the line that the ration would have had, then 10 for `out`
+ * shorter than KIWIMOUND_SHEET_BYTES(rations). Number 0 writes the sheet at the front of `out`; bytes after it keep their values. */
 kiwimound_written kiwimound_write(uint32_t slots, uint32_t blowers, uint32_t wake, uint32_t rations, const uint32_t *numbers, size_t numbers_length,
                                   uint8_t *out, size_t out_length);
 
-/* Where the line of a tank is in the sheet, its closing byte 10 included: the part is empty, start and length 0, where the sheet is refused by 1 to 9
- * or has no such tank. A sheet that planning holds is looked up all the same. Changes nothing. */
+/* Where the lines of a tank are in the sheet, all of them as one part, closing bytes 10 included: the length is KIWIMOUND_LINE_BYTES for each. The part is
+ * empty, start and length 0, where the sheet is refused by 1 to 9 or 13 or has no such tank. A sheet that planning holds is looked up all the same.
+ * Changes nothing. */
 kiwimound_part kiwimound_find(const uint8_t *sheet, size_t sheet_length, uint32_t tank);
 
 /* Placing ----------------------------------------------------------------------------------------------------------------------------------- */
 
-/* The shortfall of the slots that are marked 1: `marks` lends a 0 or a 1 for each slot. Refusals 1 to 9 and 11. Changes nothing. */
+/* The shortfall of the slots that are marked 1: `marks` lends a 0 or a 1 for each slot. Refusals 1 to 9 and 13, then 11. Changes nothing. */
 kiwimound_shortfall_answer kiwimound_shortfall(const uint8_t *sheet, size_t sheet_length, const uint8_t *marks, size_t marks_length);
 
 /* Whether a sound placing exists under a low and a high for each slot; a high above the blowers is read as the blowers, a low is taken as it is. A sheet
- * that fits nowhere answers no with number 0. Refusals 1 to 9 and 11. Changes nothing. */
+ * that fits nowhere answers no with number 0. Refusals 1 to 9 and 13, then 11. Changes nothing. */
 kiwimound_bounds_answer kiwimound_bounds(const uint8_t *sheet, size_t sheet_length, const uint32_t *lows, size_t lows_length, const uint32_t *highs,
                                          size_t highs_length);
 
 /* Planning ---------------------------------------------------------------------------------------------------------------------------------- */
 
-/* Plans a sheet into `listing`. Refusals 1 to 9, 10 for a buffer under KIWIMOUND_LISTING_BYTES, 12. Number 0 writes the listing of the plan at its front,
- * 12 that of the held sheet; `length` is its length, and bytes after it keep their values. */
+/* Plans a sheet into `listing`. Refusals 1 to 9 and 13, then 10 for a buffer under KIWIMOUND_LISTING_BYTES, then 12. Number 0 writes the listing of the
+ * plan at its front, 12 that of the held sheet; `length` is its length, and bytes after it keep their values. */
 kiwimound_planned kiwimound_plan(const uint8_t *sheet, size_t sheet_length, uint8_t *listing, size_t listing_length);
 
-/* Plans a sheet into `placing`. Refusals 1 to 9, 10 for a buffer under KIWIMOUND_PLACING_BYTES, 12. Number 0 writes 6,144 bytes at its front: byte
- * (i - 1) * 96 + t - 1 is 1 if ration i is fed in slot t, else 0; 12 writes as many zeros. Bytes after these keep their values; `length` is 0. */
+/* Plans a sheet into `placing`. Refusals 1 to 9 and 13, then 10 for a buffer under KIWIMOUND_PLACING_BYTES, then 12. Number 0 writes 6,144 bytes at its
+ * front: byte (i - 1) * 96 + t - 1 is 1 if ration i is fed in slot t, else 0; 12 writes as many zeros. Bytes after these keep their values; `length` is 0. */
 kiwimound_planned kiwimound_plan_placing(const uint8_t *sheet, size_t sheet_length, uint8_t *placing, size_t placing_length);
 
 /* Plans a sheet into both buffers, each as the calls above. If either is too short, number 10 and neither is changed. `length` is the listing's. */
 kiwimound_planned kiwimound_plan_both(const uint8_t *sheet, size_t sheet_length, uint8_t *listing, size_t listing_length, uint8_t *placing,
                                       size_t placing_length);
 
-/* Plans a sheet for its number alone: refusals 1 to 9 and 12, `length` 0. Changes nothing. */
+/* Plans a sheet for its number alone: refusals 1 to 9 and 13, then 12, `length` 0. Changes nothing. */
 kiwimound_planned kiwimound_plan_number(const uint8_t *sheet, size_t sheet_length);
 
 /* Writes what the program writes for a sheet, at the front of `out`: the listing of the plan or of the held sheet, or for any other refusal `HELD` and one
@@ -157,15 +160,15 @@ kiwimound_planned kiwimound_plan_number(const uint8_t *sheet, size_t sheet_lengt
  * KIWIMOUND_LISTING_BYTES nothing is written; the number is then the sheet's own refusal or 10. */
 kiwimound_planned kiwimound_answer(const uint8_t *sheet, size_t sheet_length, uint8_t *out, size_t out_length);
 
-/* Whether two sheets have the same day: as many slots, and as many feedings in each. Refusals 1 to 9 and 12, all of the first sheet's before the second's;
- * the answer does not say which sheet was at fault. Changes nothing. */
+/* Whether two sheets have the same day: as many slots, and as many feedings in each. Refusals 1 to 9 and 13, then 12, all of the first sheet's before the
+ * second's; the answer does not say which sheet was at fault. Changes nothing. */
 kiwimound_compared kiwimound_compare(const uint8_t *first, size_t first_length, const uint8_t *second, size_t second_length);
 
 /* Rations as records ------------------------------------------------------------------------------------------------------------------------ */
 
 /* These calls are in a library of their own, librecords.a (`rt staticlib records`). Each answers what the call above answers to the sheet of these head
- * numbers and rations, in their order: refusals 3 to 9, where `line` is the line that the ration would have had and more than 64 rations are 6, then those
- * of the call itself. */
+ * numbers and rations, in their order: refusals 3 to 9 and 13, where `line` is the line that the ration would have had and more than 64 rations are 6, then
+ * those of the call itself. */
 
 typedef struct kiwimound_ration {
     uint32_t tank;

@@ -1,4 +1,5 @@
-/* Every call of the library, on the days of document 01 ("Days at the edge"): what it answers, what it writes, and what keeps its value. */
+/* Every call of the library, on the days of document 01 ("Days at the edge") and on days with several meals for a tank: what it answers, what it writes,
+ * and what keeps its value. */
 #include "kiwimound.h"
 
 #include <stdio.h>
@@ -54,6 +55,36 @@ static unsigned failures = 0;
 #define LAST_SLOT \
     "    3    1    1    1\n" \
     "    7    3    3    1\n"
+
+/* Tank 1 has a morning and an evening meal. */
+#define TWO_MEALS \
+    "   10    2    3    3\n" \
+    "    1    1    3    2\n" \
+    "    1    8   10    2\n" \
+    "    2    1    4    3\n"
+
+#define TWO_MEALS_PLAN \
+    "PLAN\n" \
+    "   16    3    6    7\n" \
+    "    1    1    4    2\n" \
+    "    1    5    8    0\n" \
+    "    1    9   10    2\n" \
+    "    2    1    2    0\n" \
+    "    2    3    3    2\n" \
+    "    2    4   10    0\n" \
+    "    1    1    1    1\n" \
+    "    2    1    2    1\n" \
+    "    3    1    1    2\n" \
+    "    3    2    2    2\n" \
+    "    4    1    2    3\n" \
+    "    9    1    1    1\n" \
+    "   10    1    1    2\n"
+
+/* The second meal begins in the last slot of the first. */
+#define BAD_MEAL \
+    "    4    1    1    2\n" \
+    "    5    1    2    1\n" \
+    "    5    2    4    1\n"
 
 #define BAD_WINDOW \
     "    3    1    1    2\n" \
@@ -155,6 +186,41 @@ static void test_find(void)
     EXPECT(p.start == 42 && p.length == KIWIMOUND_LINE_BYTES);
     p = kiwimound_find(LEND(BAD_WINDOW), 1);
     EXPECT(p.start == 0 && p.length == 0);
+}
+
+/* Several meals for one tank: every call takes them, and number 13 where they overlap. */
+static void test_meals(void)
+{
+    guard();
+    kiwimound_planned p = kiwimound_plan(LEND(TWO_MEALS), listing, sizeof listing);
+    EXPECT(p.number == 0 && p.line == 0 && is_listing(p, TWO_MEALS_PLAN));
+    kiwimound_part part = kiwimound_find(LEND(TWO_MEALS), 1);
+    EXPECT(part.start == KIWIMOUND_LINE_BYTES && part.length == 2 * KIWIMOUND_LINE_BYTES);
+    part = kiwimound_find(LEND(TWO_MEALS), 2);
+    EXPECT(part.start == 3 * KIWIMOUND_LINE_BYTES && part.length == KIWIMOUND_LINE_BYTES);
+    EXPECT(kiwimound_read(LEND("    4    1    1    2\n    5    1    2    1\n    5    3    4    1\n")).number == KIWIMOUND_ACCEPTED);
+    EXPECT(kiwimound_read(LEND("    4    1    1    2\n    5    1    2    1\n    4    3    4    1\n")).number == KIWIMOUND_BAD_TANK);
+
+    static const uint32_t numbers[8] = {5, 1, 2, 1, 5, 2, 4, 1}, none[4] = {0, 0, 0, 0};
+    static const uint8_t marks[4] = {1, 0, 0, 0};
+    const kiwimound_reading r = kiwimound_read(LEND(BAD_MEAL));
+    EXPECT(r.number == KIWIMOUND_BAD_MEAL && r.line == 3 && r.slots == 0 && r.rations == 0);
+    part = kiwimound_find(LEND(BAD_MEAL), 5);
+    EXPECT(part.start == 0 && part.length == 0);
+    const kiwimound_shortfall_answer s = kiwimound_shortfall(LEND(BAD_MEAL), marks, 4);
+    EXPECT(s.number == KIWIMOUND_BAD_MEAL && s.line == 3 && s.shortfall == 0);
+    const kiwimound_bounds_answer b = kiwimound_bounds(LEND(BAD_MEAL), none, 4, none, 4);
+    EXPECT(b.number == KIWIMOUND_BAD_MEAL && b.line == 3 && !b.yes);
+    const kiwimound_compared c = kiwimound_compare(LEND(TWO_MEALS), LEND(BAD_MEAL));
+    EXPECT(c.number == KIWIMOUND_BAD_MEAL && c.line == 3 && !c.same);
+    guard();
+    p = kiwimound_plan_both(LEND(BAD_MEAL), listing, sizeof listing, placing, 0);
+    EXPECT(p.number == KIWIMOUND_BAD_MEAL && p.line == 3 && p.length == 0);
+    const kiwimound_written w = kiwimound_write(4, 1, 1, 2, numbers, 8, listing, 0);
+    EXPECT(w.number == KIWIMOUND_BAD_MEAL && w.line == 3 && w.length == 0);
+    EXPECT(kept(listing, sizeof listing, 0) && kept(placing, sizeof placing, 0));
+    p = kiwimound_answer(LEND(BAD_MEAL), listing, sizeof listing);
+    EXPECT(p.number == KIWIMOUND_BAD_MEAL && p.line == 3 && is_listing(p, "HELD\n   13    3    0    0\n"));
 }
 
 static void test_shortfall(void)
@@ -271,12 +337,14 @@ static void test_compare(void)
     EXPECT(c.number == KIWIMOUND_BAD_WINDOW && c.line == 3 && !c.same);
 }
 
-/* The calls on records: document 01's first sheet, the held one, and one whose second window is faulty. */
+/* The calls on records: document 01's first sheet, the held one, one whose second window is faulty, and two with several meals for a tank. */
 static void test_records(void)
 {
     static const kiwimound_ration four_slots[] = {{1, 1, 2, 2}, {2, 1, 4, 2}, {3, 2, 3, 1}};
     static const kiwimound_ration held[] = {{1, 1, 2, 2}, {2, 2, 3, 2}};
     static const kiwimound_ration faulty[] = {{1, 1, 2, 2}, {2, 3, 2, 1}};
+    static const kiwimound_ration two_meals[] = {{1, 1, 3, 2}, {1, 8, 10, 2}, {2, 1, 4, 3}};
+    static const kiwimound_ration bad_meal[] = {{5, 1, 2, 1}, {5, 2, 4, 1}};
     static const kiwimound_ration many[65];
     guard();
     kiwimound_planned p = kiwimound_plan_rations(4, 2, 2, four_slots, 3, listing, sizeof listing);
@@ -288,8 +356,13 @@ static void test_records(void)
     p = kiwimound_plan_rations(3, 1, 1, held, 2, listing, sizeof listing);
     EXPECT(p.number == KIWIMOUND_HELD && p.line == 0 && is_listing(p, HELD_LISTING));
     guard();
+    p = kiwimound_plan_rations(10, 2, 3, two_meals, 3, listing, sizeof listing);
+    EXPECT(p.number == 0 && p.line == 0 && is_listing(p, TWO_MEALS_PLAN));
+    guard();
     p = kiwimound_plan_rations(3, 1, 1, faulty, 2, listing, sizeof listing);
     EXPECT(p.number == KIWIMOUND_BAD_WINDOW && p.line == 3 && p.length == 0);
+    p = kiwimound_plan_rations(4, 1, 1, bad_meal, 2, listing, sizeof listing);
+    EXPECT(p.number == KIWIMOUND_BAD_MEAL && p.line == 3 && p.length == 0);
     p = kiwimound_plan_rations(3, 1, 1, many, 65, listing, sizeof listing);
     EXPECT(p.number == KIWIMOUND_BAD_RATIONS && p.line == 1 && p.length == 0);
     p = kiwimound_plan_rations(4, 2, 2, four_slots, 3, listing, KIWIMOUND_LISTING_BYTES - 1);
@@ -315,6 +388,7 @@ int main(void)
     test_read();
     test_write();
     test_find();
+    test_meals();
     test_shortfall();
     test_bounds();
     test_planned();

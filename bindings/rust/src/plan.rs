@@ -28,7 +28,7 @@ pub struct Stretch {
     pub state: State,
 }
 
-/// One feeding of one ration.
+/// One feeding of one meal.
 #[derive(Clone, Copy, Debug, PartialEq, Eq, Hash)]
 pub struct Feeding {
     /// The slot, from 1.
@@ -37,7 +37,7 @@ pub struct Feeding {
     pub blower: u32,
     /// The tank that is fed.
     pub tank: u32,
-    /// 1 for the ration's first feeding, then 2, ..
+    /// 1 for the meal's first feeding, then 2, ..
     pub part: u32,
 }
 

@@ -2,7 +2,7 @@
 use std::error::Error;
 use std::fmt;
 
-/// The checks that a sheet must pass, by document 01's numbers.
+/// The checks that a sheet must pass, by their numbers.
 #[derive(Clone, Copy, Debug, PartialEq, Eq, Hash, PartialOrd, Ord)]
 pub enum Fault {
     /// 1: shorter than 21 bytes, longer than 65,520, or not a multiple of 21 long.
@@ -17,12 +17,14 @@ pub enum Fault {
     Wake = 5,
     /// 6: rations above 64, or not the number of ration lines.
     Rations = 6,
-    /// 7: a tank outside 1 to 999, or not above the tank before it.
+    /// 7: a tank outside 1 to 999, or below the tank before it.
     Tank = 7,
     /// 8: a window that breaks 1 ≤ first ≤ last ≤ slots.
     Window = 8,
     /// 9: a volume of 0, or above its window's length.
     Volume = 9,
+    /// 13: a meal begins at or before the end of the same tank's preceding window. It is checked after 9 on the same line.
+    Meal = 13,
 }
 
 impl Fault {
@@ -38,6 +40,7 @@ impl Fault {
             7 => Fault::Tank,
             8 => Fault::Window,
             9 => Fault::Volume,
+            13 => Fault::Meal,
             0 => return None,
             _ => unreachable!("number {number} for a sheet"),
         })
@@ -55,9 +58,12 @@ impl Fault {
             Fault::Blowers => "the blowers are not 1 to 8",
             Fault::Wake => "the wake cost is above 200",
             Fault::Rations => "the rations are above 64 or not as many as the ration lines",
-            Fault::Tank => "the tank is not 1 to 999 or not above the tank before it",
+            Fault::Tank => "the tank is not 1 to 999 or below the tank before it",
             Fault::Window => "the window breaks 1 ≤ first ≤ last ≤ slots",
             Fault::Volume => "the volume is 0 or above the window's length",
+            Fault::Meal => {
+                "the meal begins at or before the end of the same tank's preceding window"
+            }
         }
     }
 }
@@ -72,7 +78,7 @@ pub struct Refusal {
 }
 
 impl Refusal {
-    /// Document 01's number of the refusal, 1 to 9.
+    /// The refusal's number: 1 to 9, or 13.
     pub fn number(self) -> u32 {
         self.fault as u32
     }

@@ -14,10 +14,10 @@ pub struct Head {
     pub wake: u32,
 }
 
-/// What one tank is to be fed.
+/// A meal of a tank. A tank may have several, one after another on the sheet, each beginning after the last slot of the one before.
 #[derive(Clone, Copy, Debug, PartialEq, Eq, Hash)]
 pub struct Ration {
-    /// The tank, 1 to 999.
+    /// The tank, 1 to 999; on a sheet, not below that of the ration before.
     pub tank: u32,
     /// The first slot of its window.
     pub first: u32,
@@ -47,7 +47,7 @@ pub enum Comparison {
     Held,
 }
 
-/// A feed sheet that was accepted: its bytes pass the checks 1 to 9.
+/// A feed sheet that was accepted: its bytes pass the checks 1 to 9 and 13.
 #[derive(Clone, Debug, PartialEq, Eq)]
 pub struct Sheet {
     bytes: Vec<u8>,
@@ -139,10 +139,18 @@ impl Sheet {
         &self.rations
     }
 
-    /// The line of a tank, its closing byte 10 included, as a part of [`Sheet::bytes`].
+    /// All lines of a tank, closing bytes 10 included, as one part of [`Sheet::bytes`].
     pub fn find(&self, tank: u32) -> Option<&[u8]> {
         let part = ffi::find(&self.bytes, tank);
         (part.length != 0).then(|| &self.bytes[part.start..part.start + part.length])
+    }
+
+    /// The meals of a tank, in the order of the day, as a part of [`Sheet::rations`]; none if the sheet has no such tank.
+    pub fn meals(&self, tank: u32) -> &[Ration] {
+        let part = ffi::find(&self.bytes, tank);
+        // the head line stands before the first ration's
+        let first = (part.start / ffi::LINE_BYTES).saturating_sub(1);
+        &self.rations[first..first + part.length / ffi::LINE_BYTES]
     }
 
     /// Plans the day.

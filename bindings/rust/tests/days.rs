@@ -1,4 +1,4 @@
-//! The days of document 01 ("Days at the edge") through the safe interface.
+//! The days of document 01 ("Days at the edge"), and days with several meals for a tank, through the safe interface.
 use kiwimound::{Bounds, Comparison, Fault, Feeding, Head, Held, Ration, Refusal, Sheet, State};
 
 /// A sheet from its head numbers and its rations, by the library's writer.
@@ -33,6 +33,11 @@ fn held() -> Sheet {
 
 fn one_feeding() -> Sheet {
     sheet(3, 1, 1, &[[1, 1, 3, 1]])
+}
+
+/// Tank 1 has a morning and an evening meal.
+fn two_meals() -> Sheet {
+    sheet(10, 2, 3, &[[1, 1, 3, 2], [1, 8, 10, 2], [2, 1, 4, 3]])
 }
 
 fn stretches(sheet: &Sheet) -> Vec<(u32, u32, u32, State)> {
@@ -79,6 +84,33 @@ fn found_by_tank() {
     assert_eq!(line.as_ptr(), day.bytes()[42..].as_ptr());
     assert_eq!(day.find(9), None);
     assert!(held().find(1).is_some());
+}
+
+#[test]
+fn meals_of_a_tank() {
+    let day = two_meals();
+    let lines = day.find(1).unwrap();
+    assert_eq!(lines, b"    1    1    3    2\n    1    8   10    2\n");
+    assert_eq!(lines.as_ptr(), day.bytes()[21..].as_ptr());
+    assert_eq!(day.meals(1), &day.rations()[..2]);
+    assert_eq!(day.meals(2), &day.rations()[2..]);
+    assert_eq!(day.meals(3), []);
+    assert_eq!(sheet(1, 1, 0, &[]).meals(1), []);
+    assert_eq!(held().meals(2), &held().rations()[1..]);
+}
+
+#[test]
+fn parts_count_within_the_meal() {
+    let plan = two_meals().plan().unwrap();
+    assert_eq!((plan.energy(), plan.starts()), (16, 3));
+    let fed: Vec<(u32, u32)> = plan
+        .feedings()
+        .iter()
+        .filter(|f| f.tank == 1)
+        .map(|f| (f.slot, f.part))
+        .collect();
+    assert_eq!(fed, [(1, 1), (3, 2), (9, 1), (10, 2)]);
+    assert!(plan.is_fed(0, 3) && plan.is_fed(1, 9) && !plan.is_fed(0, 9));
 }
 
 #[test]
@@ -234,6 +266,16 @@ fn refused() {
         refusal(Fault::Volume, 2)
     );
     assert_eq!(
+        read("    3    1    1    2\n    2    1    1    1\n    1    2    3    1\n"),
+        refusal(Fault::Tank, 3)
+    );
+    let meal = read("    3    1    1    2\n    2    1    2    1\n    2    2    3    1\n");
+    assert_eq!(meal, refusal(Fault::Meal, 3));
+    assert_eq!(
+        meal.to_string(),
+        "refused, number 13, line 3: the meal begins at or before the end of the same tank's preceding window"
+    );
+    assert_eq!(
         read("    3    1    1    1\n    1    1    4    1\n").to_string(),
         "refused, number 8, line 2: the window breaks 1 ≤ first ≤ last ≤ slots"
     );
@@ -255,6 +297,14 @@ fn refused() {
     assert_eq!(
         Sheet::write(head, &[ration; 65]),
         Err(refusal(Fault::Rations, 1))
+    );
+    let whole_day = Ration {
+        volume: 1,
+        ..ration
+    };
+    assert_eq!(
+        Sheet::write(head, &[whole_day; 2]),
+        Err(refusal(Fault::Meal, 3))
     );
 }
 
