@@ -8,7 +8,7 @@ struct refusal {
     uint32_t number, line;
 };
 
-/* The first of the checks 3 to 9 that a head line's numbers and flat rations fail, or 0. */
+/* The first of the checks 3 to 9 and 13 that a head line's numbers and flat rations fail, or 0. */
 struct refusal refusal_of(const uint32_t head[4], const uint32_t *flat, size_t count);
 
 /* The reading calls: read, find, write, also from records. `choice` picks the tanks asked for and the sizes lent. Gives the number of the reading. */

@@ -19,7 +19,7 @@ static void line_at(const uint8_t *listing, size_t line, uint32_t numbers[4]) {
     if (strcmp(text, again)) fail("a line in another form");
 }
 
-/* The feed lines: each ration has its volume in its window, each slot no more than the blowers. */
+/* The feed lines: each meal has its volume in its window, its parts counted from 1; each slot has no more than the blowers, and a tank once at most. */
 static void check_feeds(const kiwimound_reading *sheet, const uint8_t *listing, uint32_t stretches, uint32_t feeds, uint8_t *grid, uint32_t *counts) {
     uint32_t parts[64] = {0}, slot = 0;
     for (uint32_t i = 0; i < feeds; i++) {
@@ -28,9 +28,10 @@ static void check_feeds(const kiwimound_reading *sheet, const uint8_t *listing, 
         if (f[0] < slot || f[0] < 1 || f[0] > sheet->slots) fail("a feeding out of order");
         slot = f[0];
         if (f[1] != ++counts[slot - 1] || f[1] > sheet->blowers) fail("a feeding with another blower");
-        while (j < sheet->rations && sheet->numbers[4 * j] != f[2]) j++;
-        if (j == sheet->rations) fail("a feeding of no tank");
-        if (slot < sheet->numbers[4 * j + 1] || slot > sheet->numbers[4 * j + 2]) fail("a feeding outside its window");
+        /* The first meal of the tank that has not ended: the windows of a tank's meals follow each other. */
+        while (j < sheet->rations && (sheet->numbers[4 * j] != f[2] || sheet->numbers[4 * j + 2] < slot)) j++;
+        if (j == sheet->rations) fail("a feeding of no meal");
+        if (slot < sheet->numbers[4 * j + 1]) fail("a feeding outside its window");
         if (f[3] != ++parts[j]) fail("a part out of order");
         if (grid[SLOTS * j + slot - 1]++) fail("one tank fed twice in a slot");
     }

@@ -29,17 +29,19 @@ struct refusal refusal_of(const uint32_t head[4], const uint32_t *flat, size_t c
     if (!within(1, head[1], 8)) return (struct refusal){4, 1};
     if (head[2] > 200) return (struct refusal){5, 1};
     if (head[3] > 64 || count != 4 * head[3]) return (struct refusal){6, 1};
-    uint32_t before = 0;
+    uint32_t tank = 1, end = 0; /* of the line before */
     for (uint32_t i = 0; i < head[3]; i++, flat += 4) {
-        if (!within(before + 1, flat[0], 999)) return (struct refusal){7, i + 2};
+        if (!within(tank, flat[0], 999)) return (struct refusal){7, i + 2};
         if (!within(1, flat[1], flat[2]) || flat[2] > head[0]) return (struct refusal){8, i + 2};
         if (!within(1, flat[3], flat[2] - flat[1] + 1)) return (struct refusal){9, i + 2};
-        before = flat[0];
+        if (flat[0] == tank && flat[1] <= end) return (struct refusal){13, i + 2};
+        tank = flat[0];
+        end = flat[2];
     }
     return (struct refusal){0, 0};
 }
 
-/* The checks 1 to 9 on bytes. */
+/* The checks 1 to 9 and 13 on bytes. */
 static struct refusal first_refusal(const uint8_t *sheet, size_t size, uint32_t head[4], uint32_t flat[256]) {
     if (size < LINE || size > KIWIMOUND_MAX_SHEET_BYTES || size % LINE) return (struct refusal){1, 0};
     uint32_t numbers[4];
@@ -53,10 +55,13 @@ static struct refusal first_refusal(const uint8_t *sheet, size_t size, uint32_t 
 
 static void check_find(const uint8_t *sheet, size_t size, uint32_t tank, struct refusal expected, const uint32_t head[4], const uint32_t *flat) {
     kiwimound_part part = kiwimound_find(sheet, size, tank);
-    size_t start = 0;
+    size_t start = 0, length = 0;
     for (size_t i = 0; expected.number == 0 && i < head[3]; i++)
-        if (flat[4 * i] == tank) start = LINE * (i + 1);
-    if (part.start != start || part.length != (start ? LINE : 0)) fail("find gives another part");
+        if (flat[4 * i] == tank) {
+            if (length == 0) start = LINE * (i + 1);
+            length += LINE;
+        }
+    if (part.start != start || part.length != length) fail("find gives another part");
 }
 
 /* Writes numbers to buffers too short, just long enough and longer. As records, there are as many rations as the list has whole ones. */

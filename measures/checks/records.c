@@ -16,7 +16,7 @@ struct day {
     size_t size;
 };
 
-/* The sheet's own rations, or one number changed, or more rations than can be. */
+/* The sheet's own rations, or one number changed, or a ration with the tank before it, or more rations than can be. */
 static void choose(struct day *day, const kiwimound_reading *r, uint32_t choice) {
     uint32_t head[4] = {r->slots, r->blowers, r->wake, r->rations}, number = choice >> 16 & 1 ? choice >> 17 : choice >> 26;
     memcpy(day->flat, r->numbers, sizeof r->numbers);
@@ -26,6 +26,12 @@ static void choose(struct day *day, const kiwimound_reading *r, uint32_t choice)
         case 2:
         case 3:
             if (head[3]) day->flat[choice / 128 % (4 * head[3])] = number;
+            break;
+        case 4:
+            if (head[3] > 1) {
+                uint32_t *tank = day->flat + 4 * (1 + choice / 128 % (head[3] - 1));
+                *tank = *(tank - 4);
+            }
             break;
     }
     memcpy(day->head, head, sizeof head);

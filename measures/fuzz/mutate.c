@@ -1,6 +1,5 @@
 #include "mutate.h"
 
-#include <stdbool.h>
 #include <stdio.h>
 #include <stdlib.h>
 #include <string.h>
@@ -40,7 +39,7 @@ static void parse(struct sheet *s, const uint8_t *bytes, size_t size) {
 /* A ration somewhere in the day. */
 static void draw_ration(const struct sheet *s, uint32_t ration[4]) {
     uint32_t day = s->head[0] ? s->head[0] : 1;
-    ration[0] = between(1, 999);
+    ration[0] = between(1, below(2) ? 999 : 20);
     ration[1] = between(1, day);
     ration[2] = between(ration[1], day);
     ration[3] = between(1, ration[2] - ration[1] + 1);
@@ -58,7 +57,7 @@ static void draw_sheet(struct sheet *s) {
 static void change(struct sheet *s) {
     uint32_t n = s->head[3];
     uint32_t *ration = s->rations[n ? below(n) : 0];
-    switch (below(14)) {
+    switch (below(15)) {
         case 0: s->head[0] = between(1, 96); break;
         case 1: s->head[1] = between(1, 8); break;
         case 2: s->head[2] = below(2) ? below(10) : below(201); break;
@@ -79,12 +78,15 @@ static void change(struct sheet *s) {
             for (uint32_t i = 0; i < n; i++) s->rations[i][1] = 1, s->rations[i][2] = s->head[0];
             break;
         case 13: draw_sheet(s); break;
+        case 14: ration[0] = s->rations[n ? below(n) : 0][0]; break;
     }
 }
 
-static int by_tank(const void *a, const void *b) {
-    uint32_t one = *(const uint32_t *)a, other = *(const uint32_t *)b;
-    return (one > other) - (one < other);
+/* By tank, then by first slot. */
+static int by_meal(const void *a, const void *b) {
+    const uint32_t *one = a, *other = b;
+    size_t f = one[0] == other[0];
+    return (one[f] > other[f]) - (one[f] < other[f]);
 }
 
 static void clamp(uint32_t *value, uint32_t low, uint32_t high) {
@@ -92,21 +94,34 @@ static void clamp(uint32_t *value, uint32_t low, uint32_t high) {
     if (*value > high) *value = high;
 }
 
-/* Puts every number into its range. */
+/* Puts every number into its range. A meal that would begin before the one before it ends begins after it or, where the day is over then, goes to the
+ * next tank; each ration leaves those after it a tank above it for that. */
 static void repair(struct sheet *s) {
     clamp(&s->head[0], 1, 96);
     clamp(&s->head[1], 1, 8);
     clamp(&s->head[2], 0, 200);
     clamp(&s->head[3], 0, 64);
-    qsort(s->rations, s->head[3], sizeof s->rations[0], by_tank);
-    for (uint32_t i = 0, before = 0; i < s->head[3]; i++) {
+    qsort(s->rations, s->head[3], sizeof s->rations[0], by_meal);
+    uint32_t tank = 1, end = 0; /* of the ration before */
+    for (uint32_t i = 0; i < s->head[3]; i++) {
         uint32_t *r = s->rations[i];
-        clamp(&r[0], before + 1, 999 - (s->head[3] - 1 - i));
-        before = r[0];
-        clamp(&r[1], 1, s->head[0]);
+        clamp(&r[0], tank, 999 - (s->head[3] - 1 - i));
+        if (r[0] == tank && end == s->head[0]) r[0]++;
+        clamp(&r[1], r[0] == tank ? end + 1 : 1, s->head[0]);
         clamp(&r[2], r[1], s->head[0]);
+        tank = r[0];
+        end = r[2];
         clamp(&r[3], 1, r[2] - r[1] + 1);
     }
+}
+
+/* Sets a ration's tank, or its first slot, to what the one before has there: mostly a meal too early. */
+static void spoil(struct sheet *s) {
+    if (s->head[3] < 2) return;
+    uint32_t i = between(1, s->head[3] - 1);
+    uint32_t *r = s->rations[i], *before = s->rations[i - 1];
+    if (below(2)) r[0] = before[0];
+    if (r[0] == before[0]) r[1] = below(2) ? before[2] : before[1];
 }
 
 size_t mutate_sheet(uint8_t *bytes, size_t size, size_t most, unsigned int seed) {
@@ -116,8 +131,8 @@ size_t mutate_sheet(uint8_t *bytes, size_t size, size_t most, unsigned int seed)
     parse(&s, bytes, size);
     if (size < LINE) draw_sheet(&s);
     for (uint32_t times = between(1, 4); times; times--) change(&s);
-    bool is_repaired = below(8) != 0;
-    if (is_repaired) repair(&s);
+    if (below(8)) repair(&s);
+    if (below(16) == 0) spoil(&s);
     size_t lines = s.head[3] + 1;
     if (lines > most / LINE) lines = most / LINE;
     for (size_t i = 0; i < lines; i++) {

@@ -20,9 +20,12 @@ int LLVMFuzzerTestOneInput(const uint8_t *data, size_t size) {
 #ifdef READING
     kiwimound_reading r = kiwimound_read(sheet, size);
     check_reading(sheet, size, choice);
-    reach(13 * (r.line < 100 ? r.line : 100) + r.number);
+    reach(14 * (r.line < 100 ? r.line : 100) + r.number);
     reach(2000 + r.slots);
     reach(2200 + r.rations);
+    uint32_t meals = 0; /* beyond the first of their tank */
+    for (uint32_t i = 1; i < r.rations; i++) meals += r.numbers[4 * i] == r.numbers[4 * i - 4];
+    reach(2300 + meals);
 #else
     struct outcome o = check_planning(sheet, size, choice);
     reach(o.number);

@@ -6,14 +6,14 @@
 
 int main(void) {
     static uint8_t sheet[70000];
-    uint32_t numbers[13] = {0}, sheets = 0;
+    uint32_t numbers[14] = {0}, sheets = 0;
     for (long n; (n = next_sheet(sheet, sizeof sheet)) >= 0; sheets++) {
         uint32_t choice = sheets * 2654435769u;
         check_reading(sheet, (size_t)n, choice);
         numbers[check_planning(sheet, (size_t)n, choice).number]++;
     }
     printf("%u sheets, by number:", sheets);
-    for (uint32_t i = 0; i < 13; i++)
+    for (uint32_t i = 0; i < 14; i++)
         if (numbers[i]) printf(" %u of %u", numbers[i], i);
     printf("\n");
     return sheets == 0;

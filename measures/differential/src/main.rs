@@ -19,17 +19,23 @@ use std::time::Instant;
 /// Where the sheet of the first difference is written.
 const DIFFERENCE: &str = "difference.sheet";
 
-/// Sheets by kind and by the number that planning gives, and days that were made of changed
-/// values and lent as records alone.
+/// Days by the number that planning gives, 0 to 13.
+type ByNumber = [u64; 14];
+
+/// Sheets by kind and by number, and days that were made of changed values and lent as
+/// records alone.
 struct Tally {
-    kinds: [[u64; 13]; KINDS.len()],
-    full: [u64; 13],
-    changed: [u64; 13],
+    kinds: [ByNumber; KINDS.len()],
+    full: ByNumber,
+    changed: ByNumber,
 }
 
 impl Tally {
     fn print(&self) {
-        println!("{:<24}{:>9}   by number 0 to 9, and 12", "kind", "sheets");
+        println!(
+            "{:<24}{:>9}   by number 0 to 9, 12 and 13",
+            "kind", "sheets"
+        );
         let others = [
             ("of all, 96 x 8 x 64", &self.full),
             ("changed, as records", &self.changed),
@@ -58,9 +64,9 @@ fn main() -> ExitCode {
     };
     let start = Instant::now();
     let mut tally = Tally {
-        kinds: [[0; 13]; KINDS.len()],
-        full: [0; 13],
-        changed: [0; 13],
+        kinds: [[0; 14]; KINDS.len()],
+        full: [0; 14],
+        changed: [0; 14],
     };
     let mut buffers = Buffers::new();
     let mut second = Expected::of(Vec::new());

@@ -52,6 +52,11 @@ impl Values {
             2 | 3 => self.flat.push(odd(draws)),
             4 | 5 => drop(self.flat.pop()),
             6 => self.resize([0, 64, 65, 66, 200][draws.index(5)]),
+            // A ration takes the tank before it.
+            7 if self.flat.len() >= 8 => {
+                let at = 4 * (1 + draws.index(self.flat.len() / 4 - 1));
+                self.flat[at] = self.flat[at - 4];
+            }
             _ if self.flat.is_empty() => {}
             _ => {
                 let at = draws.index(self.flat.len());

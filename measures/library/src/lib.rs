@@ -74,7 +74,7 @@ pub fn write(head: [u32; 4], numbers: &[u32], out: &mut [u8]) -> Written {
     }
 }
 
-/// Where the line of a tank stands in the sheet.
+/// Where the lines of a tank stand in the sheet.
 pub fn find(sheet: &[u8], tank: u32) -> Part {
     unsafe { foreign::kiwimound_find(sheet.as_ptr(), sheet.len(), tank) }
 }

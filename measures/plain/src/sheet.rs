@@ -1,4 +1,4 @@
-//! Reading a sheet: checks 1 to 9.
+//! Reading a sheet: checks 1 to 9 and 13.
 
 use crate::RATIONS;
 
@@ -72,10 +72,11 @@ pub fn read(bytes: &[u8]) -> Result<Sheet, Refusal> {
         return Err((6, 1));
     }
     let mut list = [Ration::default(); RATIONS];
-    let mut before = 0;
+    // Before the first ration: a tank below every other, and no slot.
+    let mut before = Ration::default();
     for (i, [tank, first, last, volume]) in values.enumerate() {
         let line = i as u32 + 2;
-        if tank <= before || tank > 999 {
+        if tank < 1 || tank < before.tank || tank > 999 {
             return Err((7, line));
         }
         if first < 1 || last < first || slots < last {
@@ -84,13 +85,16 @@ pub fn read(bytes: &[u8]) -> Result<Sheet, Refusal> {
         if volume == 0 || volume > last - first + 1 {
             return Err((9, line));
         }
-        before = tank;
-        list[i] = Ration {
+        if tank == before.tank && first <= before.last {
+            return Err((13, line));
+        }
+        before = Ration {
             tank,
             first,
             last,
             volume,
         };
+        list[i] = before;
     }
     Ok(Sheet {
         slots: slots as usize,

@@ -1,7 +1,7 @@
 //! Sheets of all kinds, well-formed or not, to compare answers on. A kind's share of the run is set by what the reference
 //! needs for it: a full sheet that is planned takes it most of a second.
 
-use reference::damage::damaged_sheet;
+use reference::damage::{damage_meal, damaged_sheet};
 use reference::draws::Draws;
 use reference::generate::{
     any_sheet, full_sheet, held_full_sheet, held_sheet, tight_sheet, Sizes, FULL, MIDDLE, SMALL,
@@ -15,7 +15,7 @@ pub struct Kind {
     pub make: fn(&mut Draws) -> Vec<u8>,
 }
 
-pub const KINDS: [Kind; 16] = [
+pub const KINDS: [Kind; 17] = [
     kind("full, planned or held", 4, |d| full_sheet(d).text()),
     kind("full, held", 60, |d| held_full_sheet(d).text()),
     kind("any size", 40, |d| any_sheet(d, FULL).text()),
@@ -30,8 +30,9 @@ pub const KINDS: [Kind; 16] = [
     kind("small, tight", 1500, |d| tight_sheet(d, SMALL).text()),
     kind("small, held", 1000, |d| held_sheet(d, SMALL).text()),
     kind("one field changed", 1200, one_field),
-    kind("another length", 800, another_length),
-    kind("random bytes", 856, random_bytes),
+    kind("a meal changed", 600, meal_changed),
+    kind("another length", 500, another_length),
+    kind("random bytes", 556, random_bytes),
 ];
 
 const fn kind(name: &'static str, share: u32, make: fn(&mut Draws) -> Vec<u8>) -> Kind {
@@ -92,6 +93,15 @@ fn one_field(draws: &mut Draws) -> Vec<u8> {
     bytes
 }
 
+/// A well-formed sheet with a ration's tank or first slot set near to those of the line
+/// before it.
+fn meal_changed(draws: &mut Draws) -> Vec<u8> {
+    let limits = some_limits(draws);
+    let mut bytes = any_sheet(draws, limits).text();
+    damage_meal(draws, &mut bytes);
+    bytes
+}
+
 /// A well-formed sheet cut to any length or made longer; once in a while past the
 /// longest that is read.
 fn another_length(draws: &mut Draws) -> Vec<u8> {
@@ -138,6 +148,7 @@ fn random_bytes(draws: &mut Draws) -> Vec<u8> {
 #[cfg(test)]
 mod tests {
     use super::*;
+    use reference::sheet::read;
 
     #[test]
     fn every_place_has_a_kind() {
@@ -145,5 +156,17 @@ mod tests {
         assert_eq!(all, 10_000);
         assert_eq!(kind_at(0), 0);
         assert_eq!(kind_at(9_999), KINDS.len() - 1);
+    }
+
+    #[test]
+    fn meals_changed_are_accepted_too_early_or_out_of_order() {
+        let draws = &mut Draws::new(1);
+        let numbers: Vec<u32> = (0..400)
+            .map(|_| read(&meal_changed(draws)).map_or_else(|refusal| refusal.number, |_| 0))
+            .collect();
+        for wanted in [0, 7, 13] {
+            let count = numbers.iter().filter(|&&number| number == wanted).count();
+            assert!(count > 20, "{count} sheets of number {wanted}");
+        }
     }
 }

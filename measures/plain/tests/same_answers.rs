@@ -1,0 +1,34 @@
+//! The twin is only worth timing if it answers as the planner must.
+
+use plain::{plan_both, GRID_BYTES, PLAN_BYTES};
+use reference::damage::{damage_meal, damaged_sheet};
+use reference::draws::Draws;
+use reference::generate::{any_sheet, MIDDLE, SMALL};
+use reference::listing;
+
+fn check(sheet: &[u8]) -> u32 {
+    let (mut one, mut grid) = (vec![7; PLAN_BYTES], vec![7; GRID_BYTES]);
+    let (mut expected, mut expected_grid) = (one.clone(), grid.clone());
+    let answer = plan_both(sheet, &mut one, &mut grid);
+    let wanted = listing::plan(sheet, Some(&mut expected), Some(&mut expected_grid));
+    assert_eq!((answer.number, answer.line, answer.length), wanted);
+    assert!(one == expected && grid == expected_grid);
+    answer.number
+}
+
+#[test]
+fn the_same_as_the_reference() {
+    let draws = &mut Draws::new(3);
+    let mut shown = [0; 14];
+    for round in 0..400 {
+        let limits = if round % 4 == 0 { MIDDLE } else { SMALL };
+        let mut sheet = any_sheet(draws, limits).text();
+        shown[check(&sheet) as usize] += 1;
+        damage_meal(draws, &mut sheet);
+        shown[check(&sheet) as usize] += 1;
+        shown[check(&damaged_sheet(draws, limits)) as usize] += 1;
+    }
+    for number in [0, 1, 2, 3, 4, 5, 6, 7, 8, 9, 12, 13] {
+        assert!(shown[number] > 0, "no sheet of number {number}");
+    }
+}
