@@ -36,18 +36,27 @@ fn with_slot(tally: Tally, wake: u32, slot: usize, state: u32) -> Tally
     }
 }
 
-// The tally with a stretch more, slot after slot: the slots after `from` up to `end`, in one state.
+// Takes one slot more into a lent tally.
+fn add_slot(tally: &mut Tally, wake: u32, slot: usize, state: u32)
+    requires { ⌜ CanAddSlot wake slot (now tally) ⌝ }
+    ensures { λ _. ⌜ now (tally .exit) ≡ withSlot wake slot state (now (tally .entry)) ⌝ }
+{
+    *tally = with_slot(*tally, wake, slot, state);
+}
+
+// The tally with a stretch more, the slots after `from` up to `end` in one state: it is lent for each slot in turn. Its callers pass it by value, so that
+// they need no proof by hand.
 fn with_stretch(tally: Tally, wake: u32, from: usize, end: usize, state: u32) -> Tally
     requires { ⌜ CanAddSlots wake from end tally ⌝ }
     ensures { λ r. ⌜ r ≡ withSlots wake (from + 1) (replicate (end - from) state) tally ⌝ }
 {
-    let mut sum = tally;
+    let mut running = tally;
     let mut at = from;
     while at < end {
         at += 1;
-        sum = with_slot(sum, wake, at, state);
+        add_slot(&mut running, wake, at, state);
     }
-    sum
+    running
 }
 
 // A blower's charge: one pass over its stretches, and in each over its slots.
