@@ -52,12 +52,13 @@ onRates-le x t n = go (eqb x 0) t n
     go false t zero = omega arith
     go false t (suc n) = omega (arith, rateOf-le t, go false (suc t) n)
 
+-- n starts at the rate r
+starts-le : (n q r : ℕ) → r ≤ 36 → n * (q * r) ≤ 36 * (q * n)
+starts-le n q r h = omega (arith, mul-left-comm n q r, mul-assoc q n r, mul-le-mul-left (q * n) h)
+
 startCharge-le : (q before : ℕ) (s : Stretch) → startCharge q before s ≤ 36 * (q * startAt before (s .state))
 unfolding startCharge
-startCharge-le q before s =
-    let n : ℕ = startAt before (s .state) in
-    let r : ℕ = rateOf (s .first) in
-    omega (arith, mul-left-comm n q r, mul-assoc q n r, mul-le-mul-left (q * n) (rateOf-le (s .first)))
+startCharge-le q before s = starts-le (startAt before (s .state)) q _ (rateOf-le _)
 
 chargeFrom-le : (d q before : ℕ) (vs : List Interval) → chargeFrom q before (map (listed d q) vs) ≤ 36 * (onSlots d q vs + q * startsFrom before (map (state d q) vs))
 unfolding chargeFrom listed onCharge onSlots startsFrom size

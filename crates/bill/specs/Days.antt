@@ -32,9 +32,9 @@ days =
     day 3 1 (3 ∷ []) 108 0 11
     ∷  -- a start in slot 25 counts at 31, the rate of hour 6, and not at 18, that of slot 24
     day 1 200 (replicate 24 0 ++ 1 ∷ 0 ∷ []) 6231 6 23
-    ∷  -- a slot in each hour
+    ∷  -- busy in every slot, with no wake cost: four times each of the 24 rates
     day 1 0 (replicate 96 1) 2412 2 41
-    ∷  -- short idle stretches between are on, a long one is off, and a second start counts at the rate of its own slot
+    ∷  -- a short idle stretch is on and costs its slot; a long one is off, and the second start counts at the rate of its own slot
     day 1 3 (1 ∷ 0 ∷ 1 ∷ replicate 65 0 ++ 1 ∷ []) 252 0 25
     ∷ []
 

@@ -1,8 +1,8 @@
 // Bill: the charge of a day in tenths of a cent, and its cents.
 //
-// An on slot costs its hour's rate, and a start costs q times the rate of its first on slot. A blower's tally takes one slot after another, from stretch
-// to stretch; the blowers' tallies add up to the day's charge as it is defined from the stretches of the listing, and only that sum is rounded. For the
-// layers above: each function asks for counts of a day.
+// An on slot costs its hour's rate, and a start costs q times the rate of its first on slot. A blower's tally, lent for each slot in turn, takes one slot
+// after another, from stretch to stretch. The blowers' tallies add up to the day's charge as it is defined from the stretches of the listing
+// (specs/Theorems.antt), and only that sum is rounded. For the layers above: `day_charge` asks for counts of a day.
 mod rates;
 mod tallies;
 
