@@ -1,6 +1,7 @@
 //! A second implementation of the feed-day planner of document 01, made straight
 //! from its definitions and a max flow, to say what the planner must answer.
 
+pub mod bill;
 pub mod cases;
 pub mod damage;
 pub mod draws;

@@ -1,17 +1,20 @@
 //! The listing of a plan and of a held sheet, the program's output, the planning
 //! call and the comparison.
 
+use crate::bill;
 use crate::method::{self, Plan};
 use crate::placing::{Question, SlotSet};
-use crate::sheet::{line_text, read, Refusal, Sheet, MOST_RATIONS, MOST_SLOTS};
+use crate::sheet::{line_text, read, Refusal, Sheet, LINE, MOST_RATIONS, MOST_SLOTS};
 
-/// The least plan buffer: `PLAN`, its head line, and for each of 8 blowers and 96
-/// slots one stretch line and one feed line.
-pub const PLAN_BUFFER: usize = 32_282;
+/// The least plan buffer: `PLAN`, its head line, for each of 8 blowers and 96 slots one
+/// stretch line and one feed line, and the line of the bill, by which request 103 lets it
+/// grow.
+pub const PLAN_BUFFER: usize = 32_282 + LINE;
 /// The least placing buffer: a byte for each of 64 rations and 96 slots.
 pub const PLACING_BUFFER: usize = (MOST_RATIONS * MOST_SLOTS) as usize;
 
-/// The listing of a plan.
+/// The listing of a plan. Its head line counts the stretch lines and the feed lines; the
+/// bill comes after them.
 pub fn plan_text(plan: &Plan) -> Vec<u8> {
     let mut text = b"PLAN\n".to_vec();
     let (stretches, feedings) = (plan.stretches.len() as u32, plan.feedings.len() as u32);
@@ -22,6 +25,8 @@ pub fn plan_text(plan: &Plan) -> Vec<u8> {
     for f in &plan.feedings {
         text.extend(line_text([f.slot, f.blower, f.tank, f.part]));
     }
+    let cents = bill::cents(plan.charge);
+    text.extend(line_text([cents / 100, cents % 100, 0, 0]));
     text
 }
 

@@ -1,7 +1,9 @@
-//! Parallel Left-to-Right: the counts, the feedings, the stretches and the energy.
+//! Parallel Left-to-Right: the counts, the feedings, the stretches, the energy and the
+//! charge.
 //!
 //! Slot t of the paper stands at index t − 1 of every list.
 
+use crate::bill;
 use crate::placing::{Placing, Question, SlotSet};
 use crate::sheet::Sheet;
 
@@ -44,6 +46,8 @@ pub struct Plan {
     pub feedings: Vec<Feeding>,
     pub starts: u32,
     pub energy: u32,
+    /// In tenths of a cent, not yet rounded.
+    pub charge: u32,
 }
 
 /// The plan of a sheet, or the slots shown if it has no sound placing.
@@ -58,6 +62,7 @@ pub fn plan(sheet: &Sheet) -> Result<Plan, SlotSet> {
     Ok(Plan {
         feedings: feedings(sheet, &placing),
         energy: on_slots(&stretches) + sheet.wake * starts,
+        charge: bill::charge(sheet.wake, &stretches),
         starts,
         stretches,
         placing,

@@ -42,6 +42,7 @@ const FIRST_LISTING: &str = "PLAN
     3    1    2    1
     3    2    3    1
     4    1    2    2
+    0   16    0    0
 ";
 const HELD: &str = "3 1 1 2 / 1 1 2 2 / 2 2 3 2";
 const HELD_LISTING: &str = "HELD

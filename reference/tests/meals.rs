@@ -48,6 +48,7 @@ fn a_morning_and_an_evening_meal() {
     4    1    2    3
     9    1    1    1
    10    1    1    2
+    0   29    0    0
 ";
     let day = "10 2 3 3 / 1 1 3 2 / 1 8 10 2 / 2 1 4 3";
     assert_eq!(program(&sheet(day)), listing.as_bytes());
@@ -69,6 +70,7 @@ fn parts_count_within_the_meal() {
     6    1    1    1
     7    1    2    3
     8    1    1    2
+    0   16    0    0
 ";
     let day = "8 2 2 3 / 1 1 3 2 / 1 6 8 2 / 2 2 7 3";
     assert_eq!(program(&sheet(day)), listing.as_bytes());

@@ -1,5 +1,5 @@
--- The blowers' tallies, slot by slot, add up to the charge defined from the stretches; that sum alone is rounded, to the nearest cent, halves upward;
--- and its hundreds fit a field. Assumes nothing.
+-- The blowers' tallies, slot by slot, add up to the charge defined from the stretches; whole cents are the nearest, halves upward; and the hundreds of
+-- a day's bill fit a field. Assumes nothing.
 use mathlib.Core.Path.{_≡_, refl, sym, ap, _∙_}
 use mathlib.Core.Bool.{Bool}
 use mathlib.Core.List.{List, [], _∷_, map}

@@ -4,13 +4,13 @@
 // Operation O writes of the same `O number line length` and the digest of the whole lent buffer.
 // Operation D plans the sheet, both buffers lent: `D number line length`, the digest of the listing and that of the whole placing buffer.
 fn write_output(sheet: &[u8]) {
-    let mut room = [0u8; 32282];
+    let mut room = [0u8; 32303];
     let r = planning::answer(sheet, &mut room);
     io::write_all(1, cases::first_part(&room, r.length));
 }
 
 fn digest_output(sheet: &[u8]) {
-    let mut room = [0u8; 32282];
+    let mut room = [0u8; 32303];
     cases::fill(&mut room);
     let r = planning::answer(sheet, &mut room);
     io::write_all(1, b"O");
@@ -22,7 +22,7 @@ fn digest_output(sheet: &[u8]) {
 }
 
 fn plan(sheet: &[u8]) {
-    let mut room = [0u8; 32282];
+    let mut room = [0u8; 32303];
     let mut grid = [0u8; 6144];
     cases::fill(&mut room);
     cases::fill(&mut grid);

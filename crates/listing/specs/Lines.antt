@@ -9,6 +9,7 @@ use Rattle.placing.specs.Slots.{Slots, has}
 use Rattle.placing.specs.Schedules.{Schedule}
 use Rattle.stretches.specs.Intervals.{Interval, intervals}
 use Rattle.energy.specs.Energy.{state, starts, energy}
+use Rattle.bill.specs.Bill.{charge, amountOf}
 
 -- A line of a listing: four numbers.
 pub record Line : Type 0 where
@@ -63,12 +64,17 @@ slotLines t rows = zipWith (feedLine t) (range 1 (length (fedIn t rows))) (fedIn
 unfoldable pub feedLines : (slots : ℕ) → (tanks : List ℕ) → Schedule → List Line
 feedLines slots tanks p = flatMap (λ t. slotLines t (zipWith (λ a c. (a, c)) tanks p)) (range 0 slots)
 
--- the lines of a plan; first energy, starts, number of stretch lines, number of feed lines
+-- the bill of a charge in tenths of a cent: whole hundreds of cents, remaining cents, 0, 0
+unfoldable pub billLine : ℕ → Line
+billLine tenths = line (amountOf tenths .hundreds) (amountOf tenths .remaining) 0 0
+
+-- the lines of a plan; first energy, starts, number of stretch lines, number of feed lines; last the bill
 unfoldable pub planLines : Plan → List Line
 planLines p =
     let s : List Line = stretchLines (p .blowers) (p .wake) (p .counts) in
     let f : List Line = feedLines (p .slots) (p .tanks) (p .placing) in
-    line (energy (p .blowers) (p .wake) (p .counts)) (starts (p .blowers) (p .wake) (p .counts)) (length s) (length f) ∷ s ++ f
+    line (energy (p .blowers) (p .wake) (p .counts)) (starts (p .blowers) (p .wake) (p .counts)) (length s) (length f)
+    ∷ s ++ (f ++ (billLine (charge (p .blowers) (p .wake) (p .counts)) ∷ []))
 
 -- A held sheet -----------------------------------------------------------------------
 

@@ -1,4 +1,4 @@
--- The sizes of the buffers that a planning call is lent, as document 01 gives them; src/sizes.rt names the same for the code. Assumes nothing.
+-- The sizes of the buffers that a planning call is lent, as document 01 and request 103 give them; src/sizes.rt names the same for the code. Assumes nothing.
 use Prim.Native.Nat.{ℕ, _+_, _*_}
 use Rattle.sheet.specs.Limits.{lineBytes, maxSlots, maxBlowers, maxRations}
 
@@ -6,9 +6,10 @@ use Rattle.sheet.specs.Limits.{lineBytes, maxSlots, maxBlowers, maxRations}
 abbrev pub wordBytes : ℕ
 wordBytes = 5
 
--- the least length of a plan buffer, 32,282: room for the word, the head line, and a stretch line and a feed line for each slot of each blower
+-- the least length of a plan buffer, 32,303: room for the word, the head line, a stretch line and a feed line for each slot of each blower, and the bill's
+-- line
 abbrev pub planBytes : ℕ
-planBytes = wordBytes + lineBytes * (1 + 2 * (maxSlots * maxBlowers))
+planBytes = wordBytes + lineBytes * (2 + 2 * (maxSlots * maxBlowers))
 
 -- the least length of a placing buffer, 6,144: a byte for each slot of each ration
 abbrev pub gridBytes : ℕ

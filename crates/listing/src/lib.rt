@@ -1,6 +1,7 @@
 // The bytes of a listing and of a placing: the lines of a plan, of a held sheet and of a refusal.
 //
 // The public modules are for the layer above.
+mod bill_line;
 mod bits;
 mod feed_lines;
 pub mod grid;

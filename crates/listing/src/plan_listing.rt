@@ -1,4 +1,5 @@
-// The listing of a plan: energy, starts and the numbers of lines, then the stretch lines and the feed lines.
+// The listing of a plan: energy, starts and the numbers of lines, then the stretch lines, the feed lines and the bill.
+use crate::bill_line;
 use crate::feed_lines;
 use crate::opening;
 use crate::sizes::WORD;
@@ -9,7 +10,7 @@ ghost use Rattle.listing.specs.Opening.{Written};
 ghost use Rattle.listing.specs.PlanSteps.{planOf, CanPutPlan};
 
 // Writes the listing of a plan, and answers its length. Bit j of word t says whether ration j + 1 is fed in slot t + 1, and its tank is number 4 * j.
-// It costs two passes over the slots for each blower, and a step for each slot and each feeding.
+// It costs four passes over the slots for each blower, and a step for each slot and each feeding.
 pub fn put_plan(
     out: &mut [u8],
     slots: usize,
@@ -26,6 +27,8 @@ pub fn put_plan(
     let at = WORD + LINE;
     let stretches = stretch_lines::put_stretches(out, at, slots, blowers, wake, counts);
     let feedings = feed_lines::put_feedings(out, at + LINE * stretches, slots, numbers, fed);
+    let end = at + LINE * (stretches + feedings);
+    bill_line::put_bill(out, end, slots, blowers, wake, counts);
     let day = energy::day_use(counts, slots, blowers, wake);
     sheet::put_line(
         out,
@@ -35,5 +38,5 @@ pub fn put_plan(
         stretches as u32,
         feedings as u32,
     );
-    at + LINE * (stretches + feedings)
+    end + LINE
 }

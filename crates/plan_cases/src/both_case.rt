@@ -30,6 +30,6 @@ pub fn answer(lengths: &[u8], sheet: &[u8]) {
     cases::numbers(lengths, &mut numbers);
     // no case lends longer buffers
     let mut room = [0u8; 32782];
-    let mut grid_room = [0u8; 32282];
+    let mut grid_room = [0u8; 32303];
     lend(sheet, numbers[0], numbers[1], &mut room, &mut grid_room);
 }

@@ -3,7 +3,7 @@ fn main() {
     // longer than any sheet, so that a longer input is refused by its length
     let mut input = io::large_buffer();
     let count = io::read_full(0, &mut input);
-    let mut out = [0u8; 32282];
+    let mut out = [0u8; 32303];
     let answer = planning::answer(&input[0..count], &mut out);
     let length = answer.length;
     io::write_all(1, &out[0..length]);

@@ -1,5 +1,5 @@
--- The days of 'Days at the edge' as one table: a question about a sheet's text, beside what document 01 says, and request 101 where it changes that. `answer` gives the answer of the definitions;
--- a plan's numbers are read off the program's whole output. Assumes nothing.
+-- The days of 'Days at the edge' as one table: a question about a sheet's text, beside what document 01 says, and requests 101 and 103 where they change
+-- that. `answer` gives the answer of the definitions; a plan's numbers are read off the program's whole output. Assumes nothing.
 use mathlib.Core.Path.{_≡_, refl}
 use mathlib.Core.Bool.{Bool, false}
 use mathlib.Core.List.{List, [], _∷_, map}
@@ -12,7 +12,7 @@ use Rattle.questions.specs.Text.{text}
 use Rattle.questions.specs.Calls.{shortfallOf, boundsOf}
 use Rattle.listing.specs.Lines.{Line, line}
 use Rattle.planning.specs.Planning.{countsOf, output}
-use Rattle.planning.specs.ReadListing.{linesOf, headLine, stretchPart, feedPart}
+use Rattle.planning.specs.ReadListing.{linesOf, headLine, stretchPart, feedPart, billOn}
 use Rattle.planning.specs.Meanings.{listings}
 
 -- Questions and answers -------------------------------------------------------------
@@ -30,6 +30,8 @@ pub data Question : Type 0 where
   startsFor : Sheet → Question
   stretchesFor : Sheet → Question
   feedingsFor : Sheet → Question
+  -- the bill
+  billFor : Sheet → Question
   -- the shortfall of the marked slots
   shortfallFor : Sheet → (marks : List ℕ) → Question
   -- the bounds question
@@ -58,11 +60,12 @@ answer (energyFor s) = number (headLine (outputLines s) .a)
 answer (startsFor s) = number (headLine (outputLines s) .b)
 answer (stretchesFor s) = lines (stretchPart (outputLines s))
 answer (feedingsFor s) = lines (feedPart (outputLines s))
+answer (billFor s) = lines (billOn (outputLines s) ∷ [])
 answer (shortfallFor s marks) = let r = shortfallOf (text s) marks in signed (r .number) (r .line) (r .shortfall)
 answer (boundsFor s lows highs) = let r = boundsOf (text s) lows highs in isYes (r .number) (r .line) (r .yes)
 answer (linesFor s tank) = bytes (lookUp (text s) tank)
 
--- A row: the question, and the answer that the paper states.
+-- A row: the question, and the answer that the papers state or that follows from them.
 pub record Day : Type 0 where
   pub asked : Question
   pub stated : Answer
@@ -143,9 +146,11 @@ starredDays =
     ∷ "    2    1    1    2"
     ∷ "    3    1    2    1"
     ∷ "    3    2    3    1"
-    ∷ "    4    1    2    2" ∷ [])))
+    ∷ "    4    1    2    2"
+    ∷ "    0   16    0    0" ∷ [])))
     ∷ day (countsFor listed) (numbers (1 ∷ 1 ∷ 2 ∷ 1 ∷ []))
     ∷ day (energyFor listed) (number 9)
+    ∷ day (billFor listed) (lines (line 0 16 0 0 ∷ []))
     ∷ day (outputFor held) (bytes (text ("HELD" ∷ "   12    1    2    1" ∷ "    2    0    0    0" ∷ [])))
     ∷ day (shortfallFor held (1 ∷ 0 ∷ 0 ∷ [])) (signed 0 0 (pos 0))
     ∷ day (shortfallFor held (1 ∷ 1 ∷ 1 ∷ [])) (signed 0 0 (pos 1))
@@ -166,7 +171,7 @@ starredDays =
     ∷ day (energyFor endsOff) (number 4)
     ∷ []
 
--- every starred day is as document 01 says
+-- every starred day is as document 01 says, and requests 101 and 103 where they change that
 pub starred-days-as-stated : AsStated starredDays
 unfolding listings
 starred-days-as-stated = refl
@@ -183,6 +188,9 @@ otherDays =
     ∷ day (countsFor ("    2    2    1    2" ∷ "    1    1    2    1" ∷ "    2    1    2    1" ∷ [])) (numbers (1 ∷ 1 ∷ []))
     ∷ day (feedingsFor ("    3    1    1    3" ∷ "    1    2    3    1" ∷ "    2    1    3    1" ∷ "    3    1    2    1" ∷ []))
     (lines (line 1 1 2 1 ∷ line 2 1 3 1 ∷ line 3 1 1 1 ∷ []))
+    -- request 103: a day without an on slot, and one slot with the greatest wake cost
+    ∷ day (billFor idleLong) (lines (line 0 0 0 0 ∷ []))
+    ∷ day (billFor oneSlot) (lines (line 3 62 0 0 ∷ []))
     -- request 102: both meals are fed, their parts counted within each; a meal that begins in the last slot of the one before; the order 7, 8, 9, 13 on a line;
     -- the lines of a tank
     ∷ day (feedingsFor meals) (lines (line 2 1 5 1 ∷ line 3 1 5 1 ∷ line 4 1 9 1 ∷ []))

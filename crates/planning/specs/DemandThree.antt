@@ -28,17 +28,17 @@ use Rattle.stretches.specs.Keeping.{Keeps, Carries, Before, withNoSlots}
 use Rattle.stretches.specs.Theorems.{counts-keep}
 use Rattle.energy.specs.Energy.{starts, energy}
 use Rattle.listing.specs.Sizes.{wordBytes, planBytes, gridBytes}
-use Rattle.listing.specs.Lines.{Line, stretchLines, feedLines, planLines, membersFrom, heldLines}
+use Rattle.listing.specs.Lines.{Line, stretchLines, feedLines, billLine, planLines, membersFrom, heldLines}
 use Rattle.listing.specs.Text.{planWord, heldWord}
 use Rattle.planning.specs.Planning.{canBePlanned, countsOf, feedingsOf, planOf, shownSet, listingOf, gridFor, planRefusal, shortPlan, shortGrid, listedAnswer, unlistedAnswer, listingAfter, gridAfter}
-use Rattle.planning.specs.ReadListing.{written, tanks, linesOf, headLine, slotsShown, slotSet, stretchPart, feedPart, stretchesOn, inSlot, ofTank, ofMeal, placingOn, placingMarked}
+use Rattle.planning.specs.ReadListing.{written, tanks, linesOf, headLine, slotsShown, slotSet, stretchPart, feedPart, billOn, chargeOn, stretchesOn, inSlot, ofTank, ofMeal, placingOn, placingMarked}
 use Rattle.planning.specs.SlotSetLaws.{slotSet-members, slots-memberLines}
-use Rattle.planning.specs.StretchLineLaws.{stretchesOn-lines, on-lines, listed-counts, counts-listed}
+use Rattle.planning.specs.StretchLineLaws.{stretchesOn-lines, chargeOn-lines, on-lines, listed-counts, counts-listed}
 use Rattle.planning.specs.FeedLineLaws as Feed
 use Rattle.planning.specs.GridLaws.{placingMarked-written}
 use Rattle.planning.specs.DayLaws.{own-lines, planned-sound, sound-planned, length-fullHigh, feedings-sound, feedings-load, feedings-rows, length-feedings, tanks-feedings, feedings-volume, counts-stop}
 use Rattle.planning.specs.FitLaws.{capacity-fullHigh}
-use Rattle.planning.specs.WrittenLaws.{shortPlan-long, shortGrid-long, number-planned, number-held, listing-written, grid-written, writes-planned, writes-held, listing-plan, grid-plan, word-plan, lines-plan, whole-plan, head-plan, stretchPart-plan, feedPart-plan, length-shownSet, shownLines, word-held, lines-held}
+use Rattle.planning.specs.WrittenLaws.{shortPlan-long, shortGrid-long, number-planned, number-held, listing-written, grid-written, writes-planned, writes-held, listing-plan, grid-plan, word-plan, lines-plan, whole-plan, head-plan, stretchPart-plan, feedPart-plan, bill-plan, length-shownSet, shownLines, word-held, lines-held}
 
 -- The demand's words -----------------------------------------------------------------------
 
@@ -90,10 +90,12 @@ pub record SoundPlan (s : Sheet) (ls : List Line) (p : Schedule) : Type 0 where
 -- The lines of a plan are those of the placing p on its feed lines: which stretches and which feedings, and no others. (The state of a stretch, and the order
 -- of the feed lines of several slots, are settled by the call's equation with `planLines`.)
 pub record LinesOf (s : Sheet) (ls : List Line) (p : Schedule) : Type 0 where
-  -- a head line, stretch lines and feed lines; the head line has the energy and the starts of the placing's loads
-  pub whole : ls ≡ headLine ls ∷ stretchPart ls ++ feedPart ls
+  -- a head line, stretch lines, feed lines and the bill; the head line has the energy and the starts of the placing's loads
+  pub whole : ls ≡ headLine ls ∷ stretchPart ls ++ (feedPart ls ++ (billOn ls ∷ []))
   pub energy-is : headLine ls .a ≡ energy (s .blowers) (s .wake) (loadOf s p)
   pub starts-are : headLine ls .b ≡ starts (s .blowers) (s .wake) (loadOf s p)
+  -- the bill is that of the charge of the stretch lines
+  pub bill-is : billOn ls ≡ billLine (chargeOn (s .blowers) (s .wake) (stretchPart ls))
   -- the stretches of each blower, by slot: the longest runs of slots in which it is busy, or idle, throughout; there are no lines of other blowers
   pub runs : (k : ℕ) → 1 ≤ k → k ≤ s .blowers → stretchesOn (stretchPart ls) k ≡ intervals (loadOf s p) k
   pub blowers : (k : ℕ) (v : Interval) → List·Memᴰ v (stretchesOn (stretchPart ls) k) → (1 ≤ k) × (k ≤ s .blowers)
@@ -187,6 +189,7 @@ module _ (s : Sheet) (v : ValuesInRange s (length (s .jobs)) true) (can : canBeP
         whole = whole-plan s;
         energy-is = head-plan s .0 ∙ ap (energy (s .blowers) (s .wake)) (sym (feedings-load s can));
         starts-are = head-plan s .1 ∙ ap (starts (s .blowers) (s .wake)) (sym (feedings-load s can));
+        bill-is = bill-plan s ∙ ap billLine (sym (ap (chargeOn (s .blowers) (s .wake)) (stretchPart-plan s) ∙ chargeOn-lines (s .wake) (countsOf s) (s .blowers)));
         runs = λ k o l.
             ap (λ ls. stretchesOn ls k) (stretchPart-plan s) ∙ stretchesOn-lines (s .wake) (countsOf s) (s .blowers) k o l
             ∙ ap (λ c. intervals c k) (sym (feedings-load s can));

@@ -20,8 +20,10 @@ use Rattle.placing.specs.DemandLaws.{demandsOf-inRange}
 use Rattle.stretches.specs.Intervals.{Interval, size}
 use Rattle.energy.specs.Energy.{atEnd, state, starts, energy}
 use Rattle.energy.specs.EnergyLaws.{starts-most, energy-most}
+use Rattle.bill.specs.Bill.{charge}
+use Rattle.bill.specs.Theorems.{amount-fits}
 use Rattle.listing.specs.Sizes.{planBytes}
-use Rattle.listing.specs.Lines.{Line, line, stretchLine, stretchLines, feedLine, feedLines, planLines, membersFrom, memberLines, heldLines}
+use Rattle.listing.specs.Lines.{Line, line, stretchLine, stretchLines, feedLine, feedLines, billLine, planLines, membersFrom, memberLines, heldLines}
 use Rattle.listing.specs.Text.{writeLines, planWord, heldWord, planText, heldText}
 use Rattle.planning.specs.Planning.{canBePlanned, countsOf, feedingsOf, planOf}
 use Rattle.planning.specs.ReadListing.{tanks}
@@ -113,6 +115,12 @@ module _ (s : Sheet) (v : ValuesInRange s (length (s .jobs)) true) (can : canBeP
   pub starts-fit : starts (s .blowers) (s .wake) (countsOf s) < 10 ^ width
   starts-fit = omega (arith, starts-most (s .blowers) (s .wake) (countsOf s) (v .head .blowers .le) (v .head .wake) day-le)
 
+  bill-fits : FitsLine (billLine (charge (s .blowers) (s .wake) (countsOf s)))
+  unfolding billLine
+  bill-fits =
+      let h = amount-fits (s .blowers) (s .wake) (countsOf s) (v .head .blowers .le) (v .head .wake) day-le in
+      record { a = omega (arith, h .0); b = omega (arith, h .1); c = omega arith; d = omega arith }
+
   pub fit-planLines : FitLines (planLines (planOf s))
   unfolding planLines planOf
   fit-planLines l i = go (List·Memᴰ·cases-cons i)
@@ -126,11 +134,22 @@ module _ (s : Sheet) (v : ValuesInRange s (length (s .jobs)) true) (can : canBeP
       head : Line
       head = line (energy (s .blowers) (s .wake) (countsOf s)) (starts (s .blowers) (s .wake) (countsOf s)) (length stretchLs) (length feedLs)
 
-      rest : List·Memᴰ l stretchLs ⊎ List·Memᴰ l feedLs → FitsLine l
-      rest (inl k) = fit-stretchLines (s .blowers) (s .wake) (countsOf s) (v .head .blowers .le) day-le l k
-      rest (inr k) = fit-feedLines l k
+      bill : Line
+      bill = billLine (charge (s .blowers) (s .wake) (countsOf s))
 
-      go : (l ≡ head) ⊎ List·Memᴰ l (stretchLs ++ feedLs) → FitsLine l
+      last : (l ≡ bill) ⊎ List·Memᴰ l [] → FitsLine l
+      last (inl e) = subst FitsLine (sym e) bill-fits
+      last (inr k) = absurd (List·Memᴰ·not-nil k)
+
+      more : List·Memᴰ l feedLs ⊎ List·Memᴰ l (bill ∷ []) → FitsLine l
+      more (inl k) = fit-feedLines l k
+      more (inr k) = last (List·Memᴰ·cases-cons k)
+
+      rest : List·Memᴰ l stretchLs ⊎ List·Memᴰ l (feedLs ++ (bill ∷ [])) → FitsLine l
+      rest (inl k) = fit-stretchLines (s .blowers) (s .wake) (countsOf s) (v .head .blowers .le) day-le l k
+      rest (inr k) = more (List·Memᴰ·append-cases feedLs k)
+
+      go : (l ≡ head) ⊎ List·Memᴰ l (stretchLs ++ (feedLs ++ (bill ∷ []))) → FitsLine l
       go (inl e) =
           subst FitsLine (sym e)
           (record { a = energy-fits; b = starts-fit; c = omega (arith, stretches-most); d = omega (arith, feedings-most) })
@@ -143,7 +162,8 @@ module _ (s : Sheet) (v : ValuesInRange s (length (s .jobs)) true) (can : canBeP
         arith,
         length-append planWord (writeLines (planLines (planOf s))),
         length-writeLines (planLines (planOf s)),
-        length-append (stretchLines (s .blowers) (s .wake) (countsOf s)) (feedLines (s .slots) (tanks s) (feedingsOf s)),
+        length-append (stretchLines (s .blowers) (s .wake) (countsOf s)) (feedLines (s .slots) (tanks s) (feedingsOf s) ++ (billLine (charge (s .blowers) (s .wake) (countsOf s)) ∷ [])),
+        length-append (feedLines (s .slots) (tanks s) (feedingsOf s)) (billLine (charge (s .blowers) (s .wake) (countsOf s)) ∷ []),
         stretches-most,
         feedings-most,
       )

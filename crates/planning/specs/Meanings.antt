@@ -8,17 +8,18 @@ use Rattle.stretches.specs.Method.{onRun, idleFor, busyFor, longest, idleRun, b
 use Rattle.stretches.specs.Feedings.{prefer, cells, withCounts, chosen}
 use Rattle.stretches.specs.Intervals.{join, runs, intervals, size}
 use Rattle.energy.specs.Energy.{atEnd, state, onIn, onSlots, startAt, startsFrom, startsOf, starts, on, energy}
-use Rattle.listing.specs.Lines.{stretchLine, blowerLines, stretchLines, partAt, fedIn, feedLine, slotLines, feedLines, planLines, membersFrom, memberLines, heldLines}
+use Rattle.bill.specs.Bill.{rates, hourOf, rateOf, onRate, onCharge, startCharge, chargeFrom, blowerCharge, listed, listedFor, charge, centsOf, amountOf}
+use Rattle.listing.specs.Lines.{stretchLine, blowerLines, stretchLines, partAt, fedIn, feedLine, slotLines, feedLines, billLine, planLines, membersFrom, memberLines, heldLines}
 use Rattle.listing.specs.Text.{writeLines, planText, heldText, refusalText}
 use Rattle.planning.specs.Planning.{canBePlanned, countsOf, feedingsOf, planOf, shownSet, listingOf, heldFaults, planRefusal, writes, output}
-use Rattle.planning.specs.ReadListing.{lineIn, linesOf, headLine, stretchPart, feedPart}
+use Rattle.planning.specs.ReadListing.{lineIn, linesOf, headLine, stretchPart, feedPart, billOn}
 
--- the method, feedings, stretches and energy
+-- the method, feedings, stretches, energy and the charge
 unfoldable pub plans : Unit {0}
-unfolding onRun idleFor busyFor longest idleRun busyRun settle settleAll loads prefer cells withCounts chosen join runs intervals size atEnd state onIn onSlots startAt startsFrom startsOf starts on energy
+unfolding onRun idleFor busyFor longest idleRun busyRun settle settleAll loads prefer cells withCounts chosen join runs intervals size atEnd state onIn onSlots startAt startsFrom startsOf starts on energy rates hourOf rateOf onRate onCharge startCharge chargeFrom blowerCharge listed listedFor charge centsOf amountOf
 plans = tt
 
 -- from text to text, and back to lines
 unfoldable pub listings : Unit {0}
-unfolding answers plans leading columns writeField writeLine padded stretchLine blowerLines stretchLines partAt fedIn feedLine slotLines feedLines planLines membersFrom memberLines heldLines writeLines planText heldText refusalText canBePlanned countsOf feedingsOf planOf shownSet listingOf heldFaults planRefusal writes output lineIn linesOf headLine stretchPart feedPart
+unfolding answers plans leading columns writeField writeLine padded stretchLine blowerLines stretchLines partAt fedIn feedLine slotLines feedLines billLine planLines membersFrom memberLines heldLines writeLines planText heldText refusalText canBePlanned countsOf feedingsOf planOf shownSet listingOf heldFaults planRefusal writes output lineIn linesOf headLine stretchPart feedPart billOn
 listings = tt

@@ -1,11 +1,11 @@
--- How a listing is read: its lines as numbers, the slots that a held sheet's listing shows, and the stretches and the feedings of a plan's. No more is
+-- How a listing is read: its lines as numbers, the slots that a held sheet's listing shows, and the stretches, the feedings and the bill of a plan's. No more is
 -- known here of a listing than its form. Definitions only. Assumes nothing.
 use mathlib.Core.Bool.{Bool, _&&_}
 use mathlib.Core.List.{List, map}
 use Prim.Native.Nat.{ℕ, _+_, _*_}
 use lib.Dec.{eqb, leb}
 use lib.ListN.{getD, take, drop}
-use Rattle.common.specs.Lists.{range, any, keep}
+use Rattle.common.specs.Lists.{range, sum, any, keep}
 use Rattle.sheet.specs.Limits.{maxSlots}
 use Rattle.sheet.specs.Sheet.{Job, Sheet, lineCount, lineAt, valueAt}
 use Rattle.placing.specs.Slots.{Slots}
@@ -13,6 +13,7 @@ use Rattle.placing.specs.Schedules.{Schedule}
 use Rattle.stretches.specs.Intervals.{Interval}
 use Rattle.planning.specs.declared.Planned.{Planned}
 use Rattle.listing.specs.Sizes.{wordBytes}
+use Rattle.bill.specs.Bill.{Stretch, blowerCharge}
 use Rattle.listing.specs.Lines.{Line, line}
 
 -- What was written --------------------------------------------------------------------
@@ -62,6 +63,18 @@ stretchOn l = record { first = l .b; last = l .c; busy = eqb (l .d) 2 }
 -- the stretches of blower k on stretch lines
 unfoldable pub stretchesOn : List Line → ℕ → List Interval
 stretchesOn ls k = map stretchOn (keep (λ l. eqb (l .a) k) ls)
+
+-- the line after the feed lines, the last: the bill
+unfoldable pub billOn : List Line → Line
+billOn ls = getD ls (1 + headLine ls .c + headLine ls .d) (line 0 0 0 0)
+
+-- what the bill takes of a stretch line: first, last, state
+unfoldable pub billed : Line → Stretch
+billed l = record { first = l .b; last = l .c; state = l .d }
+
+-- the day's charge, from the stretch lines of each blower
+unfoldable pub chargeOn : (blowers wake : ℕ) → List Line → ℕ
+chargeOn m q ls = sum (map (λ k. blowerCharge q (map billed (keep (λ l. eqb (l .a) k) ls))) (range 1 m))
 
 -- of feed lines, those of a slot
 unfoldable pub inSlot : ℕ → List Line → List Line

@@ -1,4 +1,5 @@
--- The stretches on the stretch lines: those of each blower are read back as its stretches, and there are none of other blowers. Assumes nothing.
+-- The stretches on the stretch lines: those of each blower are read back as its stretches, there are none of other blowers, and the charge of the lines is the
+-- day's. Assumes nothing.
 use mathlib.Core.Path.{_≡_, refl, sym, ap, ap₂, _∙_}
 use mathlib.Core.Logic.{_⊎_, inl, inr}
 use mathlib.Core.Bool.{Bool, true, false, _||_, cond}
@@ -8,16 +9,17 @@ use native.Mathlib.Omega.{arith}
 use lib.Dec.{leb, eqb}
 use lib.ListN.{length}
 use borrow.Author.Tests.{eq-eqb, ne-eqb}
-use Rattle.common.specs.Lists.{range, keep, flatMap}
+use Rattle.common.specs.Lists.{range, sum, keep, flatMap}
 use Rattle.placing.specs.ListLaws.{in-flatMap}
 use Rattle.stretches.specs.Intervals.{Interval, intervals, size}
 use Rattle.stretches.specs.Keeping.{withNoSlots, stretches}
 use Rattle.stretches.specs.Cases.{le-or-lt}
 use Rattle.stretches.specs.IntervalLaws.{interval-longest}
 use Rattle.energy.specs.Energy.{atEnd, state}
+use Rattle.bill.specs.Bill.{Stretch, blowerCharge, listed, listedFor, charge}
 use Rattle.listing.specs.Lines.{Line, stretchLine, blowerLines, stretchLines}
-use Rattle.planning.specs.ReadListing.{stretchOn, stretchesOn}
-use Rattle.planning.specs.ListLaws.{in-range, flatMap-range-none, flatMap-range-one, keep-all, keep-none, keep-flatMap, map-flatMap}
+use Rattle.planning.specs.ReadListing.{stretchOn, stretchesOn, billed, chargeOn}
+use Rattle.planning.specs.ListLaws.{in-range, map-range-cong, flatMap-range-none, flatMap-range-one, keep-all, keep-none, keep-flatMap}
 
 -- One line ------------------------------------------------------------------------
 
@@ -55,30 +57,44 @@ module _ (q : ℕ) (counts : List ℕ) where
       go [] = refl
       go (v ∷ vs) = ap₂ (λ (x : Interval) (xs : List Interval). x ∷ xs) (stretchOn-line (length counts) q j v) (go vs)
 
-  blower-same : (k : ℕ) → map stretchOn (keep (λ l. eqb (l .a) k) (blowerLines q counts k)) ≡ intervals counts k
-  blower-same k =
-      ap (map stretchOn) (keep-all (λ l. eqb (l .a) k) (blowerLines q counts k) (λ l m. eq-eqb (l .a) k (of-blower k l m))) ∙ stretches-blowerLines k
+  -- what the bill takes of them is what it takes of the stretches
+  billed-blowerLines : (j : ℕ) → map billed (blowerLines q counts j) ≡ listedFor q counts j
+  unfolding blowerLines billed stretchLine listedFor listed
+  billed-blowerLines j = go (intervals counts j)
+    where
+      go : (vs : List Interval) → map billed (map (stretchLine (length counts) q j) vs) ≡ map (listed (length counts) q) vs
+      go [] = refl
+      go (v ∷ vs) = ap (λ (xs : List Stretch). listed (length counts) q v ∷ xs) (go vs)
 
-  blower-other : (k j : ℕ) → (j ≡ k → ⊥) → map stretchOn (keep (λ l. eqb (l .a) k) (blowerLines q counts j)) ≡ []
-  blower-other k j n =
-      ap (map stretchOn)
-      (keep-none (λ l. eqb (l .a) k) (blowerLines q counts j) (λ l m. ne-eqb (l .a) k (λ e. n (sym (of-blower j l m) ∙ e))))
+  blower-same : (k : ℕ) → keep (λ l. eqb (l .a) k) (blowerLines q counts k) ≡ blowerLines q counts k
+  blower-same k = keep-all (λ l. eqb (l .a) k) (blowerLines q counts k) (λ l m. eq-eqb (l .a) k (of-blower k l m))
+
+  blower-other : (k j : ℕ) → (j ≡ k → ⊥) → keep (λ l. eqb (l .a) k) (blowerLines q counts j) ≡ []
+  blower-other k j n = keep-none (λ l. eqb (l .a) k) (blowerLines q counts j) (λ l m. ne-eqb (l .a) k (λ e. n (sym (of-blower j l m) ∙ e)))
 
   -- All blowers -------------------------------------------------------------------
 
   module _ (m : ℕ) where
     by-blower : (k : ℕ)
-        → stretchesOn (stretchLines m q counts) k ≡ flatMap (λ j. map stretchOn (keep (λ l. eqb (l .a) k) (blowerLines q counts j))) (range 1 m)
-    unfolding stretchesOn stretchLines
-    by-blower k =
-        ap (map stretchOn) (keep-flatMap (blowerLines q counts) (λ l. eqb (l .a) k) (range 1 m))
-        ∙ map-flatMap (λ j. keep (λ l. eqb (l .a) k) (blowerLines q counts j)) stretchOn (range 1 m)
+        → keep (λ l. eqb (l .a) k) (stretchLines m q counts) ≡ flatMap (λ j. keep (λ l. eqb (l .a) k) (blowerLines q counts j)) (range 1 m)
+    unfolding stretchLines
+    by-blower k = keep-flatMap (blowerLines q counts) (λ l. eqb (l .a) k) (range 1 m)
+
+    lines-of-blower : (k : ℕ) → 1 ≤ k → k ≤ m → keep (λ l. eqb (l .a) k) (stretchLines m q counts) ≡ blowerLines q counts k
+    lines-of-blower k o l = by-blower k ∙ flatMap-range-one _ k (blower-other k) 1 m o (omega arith) ∙ blower-same k
 
     pub stretchesOn-lines : (k : ℕ) → 1 ≤ k → k ≤ m → stretchesOn (stretchLines m q counts) k ≡ intervals counts k
-    stretchesOn-lines k o l = by-blower k ∙ flatMap-range-one _ k (blower-other k) 1 m o (omega arith) ∙ blower-same k
+    unfolding stretchesOn
+    stretchesOn-lines k o l = ap (map stretchOn) (lines-of-blower k o l) ∙ stretches-blowerLines k
 
     stretchesOn-none : (k : ℕ) → ((j : ℕ) → 1 ≤ j → j < 1 + m → j ≡ k → ⊥) → stretchesOn (stretchLines m q counts) k ≡ []
-    stretchesOn-none k h = by-blower k ∙ flatMap-range-none _ 1 m (λ j o l. blower-other k j (h j o l))
+    unfolding stretchesOn
+    stretchesOn-none k h = ap (map stretchOn) (by-blower k ∙ flatMap-range-none _ 1 m (λ j o l. blower-other k j (h j o l)))
+
+    -- The charge of the stretch lines is the day's.
+    pub chargeOn-lines : chargeOn m q (stretchLines m q counts) ≡ charge m q counts
+    unfolding chargeOn charge
+    chargeOn-lines = ap sum (map-range-cong 1 m (λ k o l. ap (blowerCharge q) (ap (map billed) (lines-of-blower k o (omega arith)) ∙ billed-blowerLines k)))
 
     -- the lines are of blowers 1 to m alone
     pub on-lines : (k : ℕ) (v : Interval) → List·Memᴰ v (stretchesOn (stretchLines m q counts) k) → (1 ≤ k) × (k ≤ m)

@@ -1,4 +1,4 @@
--- The listing layer's theorems beside demand 3 (DemandThree.antt), for every well-formed sheet: its listing is read back to its lines and fits the plan
+-- The planning layer's theorems beside demand 3 (DemandThree.antt), for every well-formed sheet: its listing is read back to its lines and fits the plan
 -- buffer, energy and starts fit their fields, at the end of the method low equals high, the program writes what a planning call writes, and what a
 -- comparison answers. Here are the statements; the law files have the proofs. Assumes nothing.
 use mathlib.Core.Path.{_≡_, refl, sym, ap, ap₂, _∙_, subst}
@@ -39,9 +39,9 @@ use Rattle.planning.specs.NumberLaws.{number-read}
 use Rattle.planning.specs.OutputLaws.{length-output}
 use Rattle.planning.specs.DemandThree.{SoundPlacing}
 
--- Sizes, as document 01 has them --------------------------------------------------------------
+-- Sizes, as document 01 and request 103 have them --------------------------------------------------------------
 
-pub plan-buffer-size : planBytes ≡ 32282
+pub plan-buffer-size : planBytes ≡ 32303
 plan-buffer-size = refl
 
 pub placing-buffer-size : gridBytes ≡ 6144
@@ -86,7 +86,7 @@ module _ (b : List ℕ) (accepted : faults b ≡ []) where
       go true e = rw (e, linesListed) (reads-as (listingOf s) planWord (planLines (planOf s)) (listing-plan s values e) refl (fit-planLines s values e))
       go false e = rw (e, linesListed) (reads-as (listingOf s) heldWord (shownLines s) (listing-held s values e) refl (fit-heldLines s values (shownSet s) (length-shownSet s)))
 
-  -- It is at most 32,282 bytes long.
+  -- It is at most 32,303 bytes long.
   pub listing-length : length (listingOf s) ≤ planBytes
   listing-length = length-listing s values
 

@@ -3,9 +3,10 @@
 use mathlib.Core.Path.{_≡_, refl, sym, ap, ap₂, _∙_}
 use mathlib.Core.Bool.{Bool, true, false, cond}
 use mathlib.Core.List.{List, [], _∷_, _++_}
-use Prim.Native.Nat.{ℕ, _≤_}
-use lib.ListN.{length, take, drop}
-use lib.Seq.{take-at, take-append-seam, drop-append-seam, take-length}
+use Prim.Native.Nat.{ℕ, suc, _+_, _≤_}
+use native.Mathlib.Omega.{arith}
+use lib.ListN.{length, getD, take, drop}
+use lib.Seq.{take-at, take-append-seam, drop-append-seam, getD-append-add}
 use borrow.Author.Tests.{le-ltb}
 use Rattle.sheet.specs.declared.Refusal.{Refusal}
 use Rattle.sheet.specs.Sheet.{Sheet, sheetOf}
@@ -17,11 +18,12 @@ use Rattle.placing.specs.Demands.{demandsOf, fullHigh}
 use Rattle.placing.specs.CriticalLaws.{length-criticalSet}
 use Rattle.placing.specs.DemandLaws.{windows-demandsOf}
 use Rattle.energy.specs.Energy.{starts, energy}
+use Rattle.bill.specs.Bill.{charge}
 use Rattle.listing.specs.Sizes.{wordBytes, planBytes, gridBytes}
-use Rattle.listing.specs.Lines.{Line, stretchLines, feedLines, planLines, heldLines}
+use Rattle.listing.specs.Lines.{Line, line, stretchLines, feedLines, billLine, planLines, heldLines}
 use Rattle.listing.specs.Text.{writeLines, planWord, heldWord, planText, heldText, gridOf}
 use Rattle.planning.specs.Planning.{canBePlanned, countsOf, feedingsOf, planOf, shownSet, listingOf, gridFor, heldFaults, planRefusal, shortPlan, shortGrid, writes, listedAnswer, listingAfter, gridAfter}
-use Rattle.planning.specs.ReadListing.{tanks, linesOf, headLine, stretchPart, feedPart}
+use Rattle.planning.specs.ReadListing.{tanks, linesOf, headLine, stretchPart, feedPart, billOn}
 use Rattle.planning.specs.ReadLaws.{linesOf-written}
 use Rattle.planning.specs.DayLaws.{length-fullHigh}
 use Rattle.planning.specs.FitLaws.{fit-planLines, fit-heldLines, length-planText, length-heldText}
@@ -98,19 +100,38 @@ head-plan s = (refl, refl)
 
 pub stretchPart-plan : (s : Sheet) → stretchPart (planLines (planOf s)) ≡ stretchLines (s .blowers) (s .wake) (countsOf s)
 unfolding stretchPart headLine planLines planOf
-stretchPart-plan s = take-append-seam (stretchLines (s .blowers) (s .wake) (countsOf s)) (feedLines (s .slots) (tanks s) (feedingsOf s))
+stretchPart-plan s = take-append-seam (stretchLines (s .blowers) (s .wake) (countsOf s)) _
 
 pub feedPart-plan : (s : Sheet) → feedPart (planLines (planOf s)) ≡ feedLines (s .slots) (tanks s) (feedingsOf s)
 unfolding feedPart headLine planLines planOf
 feedPart-plan s =
     ap (take (length (feedLines (s .slots) (tanks s) (feedingsOf s))))
-    (drop-append-seam (stretchLines (s .blowers) (s .wake) (countsOf s)) (feedLines (s .slots) (tanks s) (feedingsOf s)))
-    ∙ take-length (feedLines (s .slots) (tanks s) (feedingsOf s))
+    (drop-append-seam (stretchLines (s .blowers) (s .wake) (countsOf s)) _)
+    ∙ take-append-seam (feedLines (s .slots) (tanks s) (feedingsOf s)) _
+
+-- the bill is that of the charge
+pub bill-plan : (s : Sheet) → billOn (planLines (planOf s)) ≡ billLine (charge (s .blowers) (s .wake) (countsOf s))
+unfolding billOn headLine planLines planOf
+bill-plan s =
+    ap (λ n. getD (planLines (planOf s)) n (line 0 0 0 0)) (place (length stretchLs) (length feedLs))
+    ∙ getD-append-add stretchLs _ (length feedLs + 0) (line 0 0 0 0)
+    ∙ getD-append-add feedLs _ 0 (line 0 0 0 0)
+  where
+    stretchLs : List Line
+    stretchLs = stretchLines (s .blowers) (s .wake) (countsOf s)
+
+    feedLs : List Line
+    feedLs = feedLines (s .slots) (tanks s) (feedingsOf s)
+
+    place : (a b : ℕ) → 1 + a + b ≡ suc (a + (b + 0))
+    place a b = omega arith
 
 pub whole-plan : (s : Sheet)
-    → planLines (planOf s) ≡ headLine (planLines (planOf s)) ∷ stretchPart (planLines (planOf s)) ++ feedPart (planLines (planOf s))
+    → planLines (planOf s) ≡ headLine (planLines (planOf s)) ∷ stretchPart (planLines (planOf s)) ++ (feedPart (planLines (planOf s)) ++ (billOn (planLines (planOf s)) ∷ []))
 unfolding headLine planLines planOf
-whole-plan s = ap₂ (λ (x y : List Line). headLine (planLines (planOf s)) ∷ x ++ y) (sym (stretchPart-plan s)) (sym (feedPart-plan s))
+whole-plan s =
+    ap₂ (λ (x y : List Line). headLine (planLines (planOf s)) ∷ x ++ y) (sym (stretchPart-plan s))
+    (ap₂ (λ (x : List Line) (y : Line). x ++ (y ∷ [])) (sym (feedPart-plan s)) (sym (bill-plan s)))
 
 -- A held sheet's lines ---------------------------------------------------------------------
 

@@ -129,7 +129,7 @@ module _ {s : Sheet} {t : Text} (h : TextOf s t) (z : t .number ≡ 0) where
   pub text-read : sheetOf bytes ≡ s
   text-read = ap sheetOf (h .text z) ∙ text-sheet s (h .accepted z)
 
-  -- the first refusal, by whatever is checked after 1 to 9
+  -- the first refusal, by whatever is checked after 1 to 9 and 13
   pub text-refusal : (more : Sheet → List Refusal) → firstRefusal (faults bytes ++ more (sheetOf bytes)) ≡ firstRefusal (recordFaults s ++ more s)
   text-refusal more =
       ap (λ l. firstRefusal (l ++ more (sheetOf bytes))) (ap faults (h .text z) ∙ text-faults s (h .accepted z) ∙ sym (h .accepted z))

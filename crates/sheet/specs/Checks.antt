@@ -55,7 +55,7 @@ windowFault slots release deadline = not (leb 1 release && (leb release deadline
 unfoldable pub volumeFault : ℕ → ℕ → ℕ → Bool
 volumeFault release deadline volume = eqb volume 0 || ltb (suc deadline - release) volume
 
--- 13: a meal of the tank before that begins at or before the last slot of the window before it, `until`
+-- 13: the tank of the line before again, with a window that begins at or before the last slot of the window there, `until`
 unfoldable pub mealFault : ℕ → ℕ → ℕ → ℕ → Bool
 mealFault before until tank release = eqb tank before && leb release until
 

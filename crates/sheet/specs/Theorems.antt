@@ -77,7 +77,8 @@ written-read-again slots blowers wake n numbers old e =
       rationsRead-accepted s ∙ numbersOf-jobsOf n numbers (sym (a .agrees)),
     )
 
--- A look-up gives all lines of the tank, as one part of the sheet: those from line f up to line a. No other line has the tank.
+-- A look-up gives all lines of the tank, as one part of the sheet: those from line f up to, not including, line a, the head line
+-- being line 0. No other line has the tank (`AllHave` and `NoneHas`, of FindLaws, are over the same lines).
 pub record IsLinesOf (b : List ℕ) (tank f a : ℕ) : Type 0 where
   pub first : 1 ≤ f
   pub some : f < a

@@ -1,8 +1,10 @@
 //! Days by the program's whole output: those of document 01, days with several meals for
-//! a tank and each refusal as they are written, days at the limits by digest. Then generated sheets of all sizes,
-//! planned with both buffers: `D number line length`, the digest of the listing and that
-//! of the placing buffer. The payload is a sheet.
+//! a tank, days with a charge in each hour or near a half, and each refusal as they are
+//! written, days at the limits by digest. Then generated sheets of all sizes, planned with
+//! both buffers: `D number line length`, the digest of the listing and that of the placing
+//! buffer. The payload is a sheet.
 
+use super::bill::{dear_days, hour_days, rounding_days, start_days};
 use super::meals::{full_meal_days, meal_days};
 use super::sheets::{
     beyond_days, document_days, full_day, limit_days, refused_by, settled_days, text,
@@ -51,9 +53,16 @@ const FULL_SHEETS: u32 = 60;
 const HELD_FULL_SHEETS: u32 = 40;
 
 /// Sheets whose whole output is written: the days of document 01, those with several
-/// meals, and those that each check refuses.
+/// meals, small ones for the bill, and those that each check refuses.
 fn small_sheets() -> Vec<Vec<u8>> {
-    let days = [document_days(), meal_days(), beyond_days()].concat();
+    let days = [
+        document_days(),
+        meal_days(),
+        hour_days(),
+        rounding_days(),
+        beyond_days(),
+    ]
+    .concat();
     let days = days.iter().map(|lines| text(lines));
     let refused = SHEET_CHECKS.into_iter().flat_map(refused_by);
     days.chain(refused).collect()
@@ -65,6 +74,8 @@ fn large_sheets() -> Vec<Vec<u8>> {
         limit_days(),
         settled_days(),
         full_meal_days(),
+        start_days(),
+        dear_days(),
         vec![full_day()],
     ]
     .concat();

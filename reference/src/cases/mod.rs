@@ -1,6 +1,7 @@
 //! Case files for the gate programs: a stream of cases, and the output expected of
 //! a program that answers them one after another.
 
+mod bill;
 pub mod days;
 mod meals;
 pub mod placing;

@@ -60,6 +60,7 @@ fn compare_case(first: &[u8], second: &[u8]) -> Case {
 
 #[cfg(test)]
 mod tests {
+    use super::planning::LONGER;
     use super::*;
     use crate::cases::assert_streamed;
     use crate::cases::sheets::{first_day, held_day, text};
@@ -68,6 +69,22 @@ mod tests {
     #[test]
     fn the_stream_holds_the_cases() {
         assert_streamed(&cases(), 1_000_000);
+    }
+
+    /// Where a case asks for more, the gate program answers nothing.
+    #[test]
+    fn no_case_lends_more_than_the_program_has_room_for() {
+        for case in cases() {
+            let most: &[usize] = match case.operation {
+                b'P' | b'G' => &[LONGER],
+                b'B' => &[LONGER, PLAN_BUFFER],
+                _ => continue,
+            };
+            let lengths = numbers_of(case.parts().0);
+            assert_eq!(lengths.len(), most.len());
+            let fits = |(&length, &most)| length as usize <= most;
+            assert!(lengths.iter().zip(most).all(fits), "{lengths:?}");
+        }
     }
 
     #[test]
@@ -96,7 +113,7 @@ mod tests {
         let (first, held) = (text(&first_day()), text(&held_day()));
         let (listing, grid) = (lent_buffer(PLAN_BUFFER), lent_buffer(PLACING_BUFFER));
         let starts = |case: &Case, start: &str| assert!(answer(case).starts_with(start));
-        starts(&plan_case(b'P', &[PLAN_BUFFER], &first), "P 0 0 215\nD ");
+        starts(&plan_case(b'P', &[PLAN_BUFFER], &first), "P 0 0 236\nD ");
         starts(&plan_case(b'P', &[PLAN_BUFFER], &held), "P 12 0 47\nD ");
         starts(&plan_case(b'G', &[PLACING_BUFFER], &first), "G 0 0 0\nD ");
         assert_eq!(

@@ -1,6 +1,7 @@
 //! Planning with each combination of buffers, one byte too short, exact and longer.
 
 use super::{plan_case, Case};
+use crate::cases::bill::{dear_days, rounding_days, start_days};
 use crate::cases::meals::{full_meal_days, meal_days};
 use crate::cases::sheets::{
     beyond_days, document_days, full_day, limit_days, refused_by, settled_days, text,
@@ -10,6 +11,7 @@ use crate::damage::damaged_sheet;
 use crate::draws::Draws;
 use crate::generate::{full_sheet, held_full_sheet, held_sheet, tight_sheet, MIDDLE, SMALL};
 use crate::listing::{PLACING_BUFFER, PLAN_BUFFER};
+use crate::sheet::LINE;
 
 pub fn cases() -> Vec<Case> {
     let mut cases = Vec::new();
@@ -20,7 +22,7 @@ pub fn cases() -> Vec<Case> {
     for lines in beyond_days() {
         cases.extend(all_buffers(&text(&lines)));
     }
-    for lines in meal_days() {
+    for lines in [meal_days(), rounding_days()].concat() {
         cases.extend(exact_buffers(&text(&lines)));
     }
     for number in SHEET_CHECKS {
@@ -32,7 +34,14 @@ pub fn cases() -> Vec<Case> {
         }
     }
     cases.push(plan_case(b'P', &[PLAN_BUFFER], &too_long_sheet()));
-    for lines in [limit_days(), settled_days(), full_meal_days()].concat() {
+    let large_days = [
+        limit_days(),
+        settled_days(),
+        full_meal_days(),
+        start_days(),
+        dear_days(),
+    ];
+    for lines in large_days.concat() {
         cases.extend(exact_buffers(&text(&lines)));
     }
     cases.extend(generated_cases());
@@ -68,12 +77,14 @@ fn exact_buffers(sheet: &[u8]) -> Vec<Case> {
     ]
 }
 
-/// Each operation with buffers of no byte, one byte too short, exact and longer,
-/// and with each buffer as long as the other one must be.
+/// Each operation with buffers of no byte, one byte too short, exact, one byte longer and
+/// more, with a plan buffer that lacks the line of the bill, and with each buffer as long
+/// as the other one must be.
 fn all_buffers(sheet: &[u8]) -> Vec<Case> {
     let listings = [
         0,
         PLACING_BUFFER,
+        PLAN_BUFFER - LINE,
         PLAN_BUFFER - 1,
         PLAN_BUFFER,
         PLAN_BUFFER + 1,
@@ -89,7 +100,7 @@ fn all_buffers(sheet: &[u8]) -> Vec<Case> {
     let mut cases = vec![plan_case(b'N', &[], sheet)];
     cases.extend(listings.map(|length| plan_case(b'P', &[length], sheet)));
     cases.extend(grids.map(|length| plan_case(b'G', &[length], sheet)));
-    for listing in [PLAN_BUFFER - 1, PLAN_BUFFER, LONGER] {
+    for listing in [PLAN_BUFFER - 1, PLAN_BUFFER, PLAN_BUFFER + 1, LONGER] {
         for grid in [PLACING_BUFFER - 1, PLACING_BUFFER, PLACING_BUFFER + 100] {
             cases.push(plan_case(b'B', &[listing, grid], sheet));
         }
@@ -98,5 +109,5 @@ fn all_buffers(sheet: &[u8]) -> Vec<Case> {
     cases
 }
 
-/// A plan buffer longer than it must be.
-const LONGER: usize = PLAN_BUFFER + 500;
+/// A plan buffer longer than it must be: the most that the gate program has room for.
+pub const LONGER: usize = 32_782;
