@@ -27,7 +27,7 @@ extern "C" {
 
 #define KIWIMOUND_LINE_BYTES 21u         /* a line of a sheet or of a listing: four fields of five columns, and byte 10 */
 #define KIWIMOUND_MAX_SHEET_BYTES 65520u /* a longer sheet is refused by its length */
-#define KIWIMOUND_LISTING_BYTES 32282u   /* the least length of a plan buffer */
+#define KIWIMOUND_LISTING_BYTES 32303u   /* the least length of a plan buffer */
 #define KIWIMOUND_PLACING_BYTES 6144u    /* the least length of a placing buffer */
 #define KIWIMOUND_MAX_SLOTS 96u
 #define KIWIMOUND_MAX_BLOWERS 8u
@@ -141,7 +141,12 @@ kiwimound_bounds_answer kiwimound_bounds(const uint8_t *sheet, size_t sheet_leng
 /* Planning ---------------------------------------------------------------------------------------------------------------------------------- */
 
 /* Plans a sheet into `listing`. Refusals 1 to 9 and 13, then 10 for a buffer under KIWIMOUND_LISTING_BYTES, then 12. Number 0 writes the listing of the
- * plan at its front, 12 that of the held sheet; `length` is its length, and bytes after it keep their values. */
+ * plan at its front, 12 that of the held sheet; `length` is its length, and bytes after it keep their values.
+ *
+ * The listing of a plan is `PLAN` and byte 10, then lines of KIWIMOUND_LINE_BYTES: energy, starts, stretch lines, feed lines; so many stretch lines, with
+ * blower, first slot, last slot, state (0 off, 1 idle and on, 2 busy); so many feed lines, with slot, blower, tank, part; and last the day's power bill:
+ * whole hundreds of cents, remaining cents, 0, 0. That of a held sheet has no bill: `HELD` and byte 10, a line of 12, the number of slots shown, the
+ * feedings forced into them, the capacity there; then a line of slot, 0, 0, 0 for each. */
 kiwimound_planned kiwimound_plan(const uint8_t *sheet, size_t sheet_length, uint8_t *listing, size_t listing_length);
 
 /* Plans a sheet into `placing`. Refusals 1 to 9 and 13, then 10 for a buffer under KIWIMOUND_PLACING_BYTES, then 12. Number 0 writes 6,144 bytes at its

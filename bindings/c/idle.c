@@ -1,5 +1,6 @@
-/* Plans the feed sheet in a file, or on standard input, and prints what a crew asks first: when each blower is idle, and whether it is switched off
- * meanwhile. For a held sheet: the slots that show why, with the feedings forced into them and those that the blowers can make there.
+/* Plans the feed sheet in a file, or on standard input, and prints what a crew asks first: when each blower is idle, whether it is switched off
+ * meanwhile, and what the day costs. For a held sheet: the slots that show why, with the feedings forced into them and those that the blowers can make
+ * there.
  *
  *     idle SHEET        idle < SHEET
  *
@@ -36,6 +37,13 @@ static void print_idle(void)
     }
 }
 
+/* The bill is the last line, after the stretch lines and the feed lines that the first line counts. */
+static void print_bill(void)
+{
+    const size_t last = 1 + field(0, 2) + field(0, 3);
+    printf("bill %u cents\n", 100 * field(last, 0) + field(last, 1));
+}
+
 static void print_held(void)
 {
     const size_t slots = field(0, 1);
@@ -65,6 +73,7 @@ int main(int argc, char **argv)
     const kiwimound_planned planned = kiwimound_plan(sheet, length, listing, sizeof listing);
     if (planned.number == KIWIMOUND_ACCEPTED) {
         print_idle();
+        print_bill();
         return 0;
     }
     if (planned.number == KIWIMOUND_HELD)

@@ -1,5 +1,5 @@
-/* Every call of the library, on the days of document 01 ("Days at the edge") and on days with several meals for a tank: what it answers, what it writes,
- * and what keeps its value. */
+/* Every call of the library, on the days of document 01 ("Days at the edge"), on days with several meals for a tank and on days for the bill: what it
+ * answers, what it writes, and what keeps its value. */
 #include "kiwimound.h"
 
 #include <stdio.h>
@@ -35,7 +35,8 @@ static unsigned failures = 0;
     "    2    1    1    2\n" \
     "    3    1    2    1\n" \
     "    3    2    3    1\n" \
-    "    4    1    2    2\n"
+    "    4    1    2    2\n" \
+    "    0   16    0    0\n"
 
 #define HELD \
     "    3    1    1    2\n" \
@@ -78,7 +79,8 @@ static unsigned failures = 0;
     "    3    2    2    2\n" \
     "    4    1    2    3\n" \
     "    9    1    1    1\n" \
-    "   10    1    1    2\n"
+    "   10    1    1    2\n" \
+    "    0   29    0    0\n"
 
 /* The second meal begins in the last slot of the first. */
 #define BAD_MEAL \
@@ -274,6 +276,58 @@ static void test_planned(void)
     EXPECT(p.number == 0 && p.line == 0 && p.length == 0);
 }
 
+static bool is_planned(const char *text, const char *expected)
+{
+    guard();
+    const kiwimound_planned p = kiwimound_plan((const uint8_t *)text, strlen(text), listing, sizeof listing);
+    return p.number == 0 && p.line == 0 && is_listing(p, expected);
+}
+
+/* The last line of a plan: hundreds of cents, remaining cents, 0, 0. */
+static void test_bill(void)
+{
+    EXPECT(is_planned("    3    1    4    0\n", /* nothing is on */
+                      "PLAN\n"
+                      "    0    0    1    0\n"
+                      "    1    1    3    0\n"
+                      "    0    0    0    0\n"));
+    EXPECT(is_planned("    1    1  200    1\n" /* 201 units at 18 tenths of a cent: 361.8 cents */
+                      "    1    1    1    1\n",
+                      "PLAN\n"
+                      "  201    1    1    1\n"
+                      "    1    1    1    2\n"
+                      "    1    1    1    1\n"
+                      "    3   62    0    0\n"));
+    EXPECT(is_planned("   25    1    3    2\n" /* 4 units in slot 1 at 18, and 4 in slot 25 at 31: 19.6 cents */
+                      "    1    1    1    1\n"
+                      "    2   25   25    1\n",
+                      "PLAN\n"
+                      "    8    2    3    2\n"
+                      "    1    1    1    2\n"
+                      "    1    2   24    0\n"
+                      "    1   25   25    2\n"
+                      "    1    1    1    1\n"
+                      "   25    1    2    1\n"
+                      "    0   20    0    0\n"));
+    EXPECT(is_planned("   37    1    0    1\n" /* slot 36 at 31 and slot 37 at 24: 5.5 cents */
+                      "    1   36   37    2\n",
+                      "PLAN\n"
+                      "    2    1    2    2\n"
+                      "    1    1   35    0\n"
+                      "    1   36   37    2\n"
+                      "   36    1    1    1\n"
+                      "   37    1    1    2\n"
+                      "    0    6    0    0\n"));
+    guard();
+    EXPECT(KIWIMOUND_LISTING_BYTES == 5 + KIWIMOUND_LINE_BYTES * (2 + 2 * KIWIMOUND_MAX_BLOWERS * KIWIMOUND_MAX_SLOTS));
+    kiwimound_planned p = kiwimound_plan(LEND(FOUR_SLOTS), listing, KIWIMOUND_LISTING_BYTES - KIWIMOUND_LINE_BYTES);
+    EXPECT(p.number == KIWIMOUND_SHORT_BUFFER && p.line == 0 && p.length == 0);
+    p = kiwimound_plan(LEND(FOUR_SLOTS), listing, KIWIMOUND_LISTING_BYTES - 1);
+    EXPECT(p.number == KIWIMOUND_SHORT_BUFFER && p.line == 0 && p.length == 0 && kept(listing, sizeof listing, 0));
+    p = kiwimound_plan(LEND(FOUR_SLOTS), listing, KIWIMOUND_LISTING_BYTES);
+    EXPECT(p.number == 0 && p.line == 0 && is_listing(p, FOUR_SLOTS_PLAN));
+}
+
 static void test_held(void)
 {
     guard();
@@ -392,6 +446,7 @@ int main(void)
     test_shortfall();
     test_bounds();
     test_planned();
+    test_bill();
     test_held();
     test_refused();
     test_answer();

@@ -1,4 +1,5 @@
-//! Plans the feed sheet in a file, or on standard input, and prints when each blower is idle, or the slots that show why the sheet is held.
+//! Plans the feed sheet in a file, or on standard input, and prints when each blower is idle and what the day costs, or the slots that show why the
+//! sheet is held.
 //!
 //!     cargo run --example idle -- ../../examples/four_slots.sheet
 use kiwimound::{Sheet, State};
@@ -24,6 +25,7 @@ fn print_idle() -> Result<(), Box<dyn Error>> {
         };
         println!("blower {} idle {} to {} {state}", s.blower, s.first, s.last);
     }
+    println!("bill {} cents", plan.bill());
     Ok(())
 }
 

@@ -3,7 +3,7 @@
 #![allow(unsafe_code)]
 
 /// The least length of a plan buffer.
-const LISTING_BYTES: usize = 32_282;
+const LISTING_BYTES: usize = 32_303;
 /// The least length of a placing buffer.
 const PLACING_BYTES: usize = 6_144;
 /// Bytes of a line of a sheet or of a listing.

@@ -12,6 +12,7 @@
 //! )?;
 //! let plan = sheet.plan()?;
 //! assert_eq!(plan.energy(), 9);
+//! assert_eq!(plan.bill(), 16);
 //! let off = plan.stretches().iter().find(|s| s.state == State::Off).unwrap();
 //! assert_eq!((off.blower, off.first, off.last), (2, 1, 2));
 //! # Ok::<(), Box<dyn std::error::Error>>(())

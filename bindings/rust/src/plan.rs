@@ -48,6 +48,7 @@ pub struct Plan {
     starts: u32,
     stretches: Vec<Stretch>,
     feedings: Vec<Feeding>,
+    bill: u32,
     listing: Vec<u8>,
     placing: Vec<u8>,
 }
@@ -55,7 +56,8 @@ pub struct Plan {
 impl Plan {
     pub(crate) fn new(listing: Vec<u8>, placing: Vec<u8>) -> Plan {
         let mut lines = listing::lines(&listing);
-        let [energy, starts, stretches, _] = lines.next().expect("a plan has its first line");
+        let [energy, starts, stretches, feedings] =
+            lines.next().expect("a plan has its first line");
         let stretches = lines
             .by_ref()
             .take(stretches as usize)
@@ -72,6 +74,8 @@ impl Plan {
             })
             .collect();
         let feedings = lines
+            .by_ref()
+            .take(feedings as usize)
             .map(|[slot, blower, tank, part]| Feeding {
                 slot,
                 blower,
@@ -79,11 +83,13 @@ impl Plan {
                 part,
             })
             .collect();
+        let [hundreds, remaining, ..] = lines.last().expect("a plan ends with its bill");
         Plan {
             energy,
             starts,
             stretches,
             feedings,
+            bill: 100 * hundreds + remaining,
             listing,
             placing,
         }
@@ -97,6 +103,12 @@ impl Plan {
     /// How often a blower is switched on.
     pub fn starts(&self) -> u32 {
         self.starts
+    }
+
+    /// The day's power bill in whole cents: each energy unit at the rate of its hour, a start's at that of its first on slot; the sum over all blowers,
+    /// rounded, halves upward.
+    pub fn bill(&self) -> u32 {
+        self.bill
     }
 
     /// Every stretch of every blower, by blower, then slot.

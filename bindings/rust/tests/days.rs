@@ -1,4 +1,4 @@
-//! The days of document 01 ("Days at the edge"), and days with several meals for a tank, through the safe interface.
+//! The days of document 01 ("Days at the edge"), days with several meals for a tank and days for the bill, through the safe interface.
 use kiwimound::{Bounds, Comparison, Fault, Feeding, Head, Held, Ration, Refusal, Sheet, State};
 
 /// A sheet from its head numbers and its rations, by the library's writer.
@@ -102,7 +102,8 @@ fn meals_of_a_tank() {
 #[test]
 fn parts_count_within_the_meal() {
     let plan = two_meals().plan().unwrap();
-    assert_eq!((plan.energy(), plan.starts()), (16, 3));
+    assert_eq!((plan.energy(), plan.starts(), plan.bill()), (16, 3, 29));
+    assert_eq!(plan.feedings().len(), 7);
     let fed: Vec<(u32, u32)> = plan
         .feedings()
         .iter()
@@ -116,7 +117,7 @@ fn parts_count_within_the_meal() {
 #[test]
 fn first_listing() {
     let plan = four_slots().plan().unwrap();
-    assert_eq!((plan.energy(), plan.starts()), (9, 2));
+    assert_eq!((plan.energy(), plan.starts(), plan.bill()), (9, 2, 16));
     assert_eq!(
         stretches(&four_slots()),
         [
@@ -164,7 +165,8 @@ fn first_listing() {
     }
     assert!(!plan.is_fed(3, 1) && !plan.is_fed(64, 1) && !plan.is_fed(usize::MAX, u32::MAX));
     assert!(plan.listing().starts_with(b"PLAN\n    9    2    4    5\n"));
-    assert_eq!(plan.listing().len(), 5 + 21 * (1 + 4 + 5));
+    assert!(plan.listing().ends_with(b"\n    0   16    0    0\n"));
+    assert_eq!(plan.listing().len(), 5 + 21 * (1 + 4 + 5 + 1));
 }
 
 #[test]
@@ -216,6 +218,28 @@ fn energies() {
     let ends = [[1, 1, 1, 1], [2, 3, 3, 1]];
     assert_eq!(sheet(3, 1, 2, &ends).plan().unwrap().energy(), 5);
     assert_eq!(sheet(3, 1, 1, &ends).plan().unwrap().energy(), 4);
+}
+
+/// Each day's tenths of a cent beside its whole cents.
+#[test]
+fn bills() {
+    let bill = |day: Sheet| day.plan().unwrap().bill();
+    // nothing is on
+    assert_eq!(bill(sheet(3, 1, 4, &[])), 0);
+    // slot 25 is the first at 31: 4 × 18 + 4 × 31 = 196
+    assert_eq!(bill(sheet(25, 1, 3, &[[1, 1, 1, 1], [2, 25, 25, 1]])), 20);
+    // slots 20 to 28 are on, of which 23 to 26 are idle: 9 × 18 + 5 × 18 + 4 × 31 = 376
+    assert_eq!(bill(sheet(30, 1, 9, &[[1, 20, 22, 3], [2, 27, 28, 2]])), 38);
+    // the day's 96 slots: 432 + 372 + 768 + 576 + 264 = 2,412
+    assert_eq!(bill(sheet(96, 1, 0, &[[1, 1, 96, 96]])), 241);
+    // halves: 31 + 24 = 55, and 5 × 31 + 32 × 24 + 2 × 36 = 995
+    assert_eq!(bill(sheet(37, 1, 0, &[[1, 36, 37, 2]])), 6);
+    assert_eq!(bill(sheet(70, 1, 0, &[[1, 32, 70, 39]])), 100);
+    // two blowers, 54 each
+    assert_eq!(bill(sheet(3, 2, 0, &[[1, 1, 3, 3], [2, 1, 3, 3]])), 11);
+    // eight blowers, 2,412 + 200 × 18 each
+    let whole_day = [1, 2, 3, 4, 5, 6, 7, 8].map(|tank| [tank, 1, 96, 96]);
+    assert_eq!(bill(sheet(96, 8, 200, &whole_day)), 4_810);
 }
 
 #[test]
