@@ -16,7 +16,7 @@ uint32_t check_reading(const uint8_t *sheet, size_t size, uint32_t choice);
 
 /* What planning came to. */
 struct outcome {
-    uint32_t number, energy, stretches, feeds, shown;
+    uint32_t number, energy, cents, stretches, feeds, shown;
 };
 
 /* The planning calls, answer, compare, shortfall and bounds, and those on records. `choice` picks the sizes lent. */

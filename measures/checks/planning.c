@@ -39,6 +39,32 @@ static void check_feeds(const kiwimound_reading *sheet, const uint8_t *listing, 
         if (parts[j] != sheet->numbers[4 * j + 3]) fail("a ration without its volume");
 }
 
+/* Tenths of a cent per energy unit in a slot, by its hour. */
+static uint32_t rate_of(uint32_t slot) {
+    uint32_t hour = (slot - 1) / 4;
+    return hour < 6 ? 18 : hour < 9 ? 31 : hour < 17 ? 24 : hour < 21 ? 36 : 22;
+}
+
+/* The last line: what the stretch lines cost, slot by slot. Gives it in cents. */
+static uint32_t check_bill(const kiwimound_reading *sheet, const uint8_t *listing, const uint32_t head[4]) {
+    uint32_t tenths = 0, bill[4];
+    bool was_on = false;
+    for (uint32_t i = 1; i <= head[2]; i++) {
+        uint32_t s[4];
+        line_at(listing, i, s);
+        if (s[1] == 1) was_on = false; /* another blower, off before its day */
+        for (uint32_t t = s[1]; t <= s[2]; t++) {
+            bool is_on = s[3] != 0;
+            if (is_on) tenths += rate_of(t) * (was_on ? 1 : 1 + sheet->wake);
+            was_on = is_on;
+        }
+    }
+    uint32_t cents = tenths / 10 + (tenths % 10 >= 5);
+    line_at(listing, 1 + head[2] + head[3], bill);
+    if (bill[0] != cents / 100 || bill[1] != cents % 100 || bill[2] || bill[3]) fail("another bill");
+    return cents;
+}
+
 /* The stretch lines: they cover the day of each blower, busy where the slot's count is at least its number; and the energy adds up. */
 static void check_stretches(const kiwimound_reading *sheet, const uint8_t *listing, const uint32_t head[4], const uint32_t *counts) {
     uint32_t line = 0, on = 0, starts = 0;
@@ -136,7 +162,7 @@ struct outcome check_planning(const uint8_t *bytes, size_t size, uint32_t choice
     kiwimound_reading r = kiwimound_read(sheet, size);
     size_t one = size_of(KIWIMOUND_LISTING_BYTES, choice), other = size_of(KIWIMOUND_PLACING_BYTES, choice >> 8);
     bool short_one = one < KIWIMOUND_LISTING_BYTES, short_other = other < KIWIMOUND_PLACING_BYTES;
-    struct outcome outcome = {kiwimound_plan_number(sheet, size).number, 0, 0, 0, 0};
+    struct outcome outcome = {kiwimound_plan_number(sheet, size).number, 0, 0, 0, 0, 0};
     uint32_t number = outcome.number;
     if (r.number ? number != r.number : number != 0 && number != 12) fail("another number");
     bool planned = number == 0 || number == 12;
@@ -166,9 +192,10 @@ struct outcome check_planning(const uint8_t *bytes, size_t size, uint32_t choice
     if (expected == 0) {
         uint32_t head[4];
         line_at(listing, 0, head);
-        if (memcmp(listing, "PLAN\n", WORD) || p.length != WORD + LINE * (size_t)(1 + head[2] + head[3])) fail("another length");
+        if (memcmp(listing, "PLAN\n", WORD) || p.length != WORD + LINE * (size_t)(2 + head[2] + head[3])) fail("another length");
         check_feeds(&r, listing, head[2], head[3], own, counts);
         check_stretches(&r, listing, head, counts);
+        outcome.cents = check_bill(&r, listing, head);
         outcome.energy = head[0];
         outcome.stretches = head[2];
         outcome.feeds = head[3];

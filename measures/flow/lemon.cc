@@ -219,6 +219,12 @@ std::vector<std::vector<int>> feedings(const Sheet& sheet, std::vector<int> left
   return chosen;
 }
 
+// Tenths of a cent per energy unit in a slot, counted from 0.
+int rate(int slot) {
+  const int hour = slot / 4;
+  return hour < 6 ? 18 : hour < 9 ? 31 : hour < 17 ? 24 : hour < 21 ? 36 : 22;
+}
+
 void put_line(std::string& text, int a, int b, int c, int d) {
   char line[32];
   std::snprintf(line, sizeof line, "%5d%5d%5d%5d\n", a, b, c, d);
@@ -228,7 +234,7 @@ void put_line(std::string& text, int a, int b, int c, int d) {
 std::string listing(const Sheet& sheet, const std::vector<int>& counts,
                     const std::vector<std::vector<int>>& chosen) {
   std::string lines;
-  int on = 0, starts = 0, stretches = 0, feeds = 0;
+  int on = 0, starts = 0, stretches = 0, feeds = 0, tenths = 0;
   for (int k = 1; k <= sheet.blowers; k++) {
     int before = 0;
     for (int from = 0, to; from < sheet.slots; from = to, stretches++) {
@@ -238,7 +244,11 @@ std::string listing(const Sheet& sheet, const std::vector<int>& counts,
       bool at_end = from == 0 || to == sheet.slots;
       int state = busy ? 2 : at_end || to - from >= sheet.wake ? 0 : 1;
       if (state) on += to - from;
-      if (state && !before) starts++;
+      if (state && !before) {
+        starts++;
+        tenths += sheet.wake * rate(from);
+      }
+      for (int t = from; state && t < to; t++) tenths += rate(t);
       before = state;
       put_line(lines, k, from + 1, to, state);
     }
@@ -249,6 +259,8 @@ std::string listing(const Sheet& sheet, const std::vector<int>& counts,
       int i = chosen[t][b];
       put_line(lines, t + 1, b + 1, sheet.rations[i].tank, ++parts[i]);
     }
+  int cents = (tenths + 5) / 10;
+  put_line(lines, cents / 100, cents % 100, 0, 0);
   std::string text = "PLAN\n";
   put_line(text, on + sheet.wake * starts, starts, stretches, feeds);
   return text + lines;

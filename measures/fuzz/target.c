@@ -33,6 +33,7 @@ int LLVMFuzzerTestOneInput(const uint8_t *data, size_t size) {
     reach(300 + o.feeds / 8);
     reach(500 + o.shown);
     reach(700 + o.energy / 16);
+    reach(2000 + o.cents / 4);
 #endif
     return 0;
 }

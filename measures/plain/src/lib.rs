@@ -1,5 +1,5 @@
 //! The planner's engine in plain Rust and without proofs: the same steps as the
-//! crates grid, loads, placing, stretches, energy and listing, to compare times with.
+//! crates grid, loads, placing, stretches, energy, bill and listing, to compare times with.
 
 mod listing;
 mod loads;

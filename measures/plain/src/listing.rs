@@ -1,12 +1,22 @@
-//! States, starts and energy, the bytes of the listings, and the planning calls.
+//! States, starts, energy and the bill, the bytes of the listings, and the planning calls.
 
 use crate::method::{plan_day, Day, Held};
 use crate::sheet::{read, Sheet, LINE};
 use crate::{Planned, RATIONS, SLOTS};
 
-pub const PLAN_BYTES: usize = 32_282;
+pub const PLAN_BYTES: usize = 32_303;
 pub const GRID_BYTES: usize = RATIONS * SLOTS;
 const WORD: usize = 5;
+
+/// Tenths of a cent per energy unit, for each hour of the day.
+const RATES: [u32; 24] = [
+    18, 18, 18, 18, 18, 18, 31, 31, 31, 24, 24, 24, 24, 24, 24, 24, 24, 36, 36, 36, 36, 22, 22, 22,
+];
+
+/// The rate of a slot, counted from 1.
+fn rate(slot: u32) -> u32 {
+    RATES[(slot as usize - 1) / 4]
+}
 
 /// Lines written one after another into a buffer.
 struct Lines<'a> {
@@ -49,7 +59,7 @@ fn put_plan(sheet: &Sheet, day: &Day, out: &mut [u8]) -> usize {
     out[..WORD].copy_from_slice(b"PLAN\n");
     let at = WORD + LINE;
     let mut lines = Lines { out, at };
-    let (mut on, mut starts, mut stretches) = (0, 0, 0);
+    let (mut on, mut starts, mut stretches, mut charge) = (0, 0, 0, 0);
     let counts = &day.counts[..sheet.slots];
     for blower in 1..=sheet.blowers {
         let (mut first, mut before) = (1, 0);
@@ -66,7 +76,11 @@ fn put_plan(sheet: &Sheet, day: &Day, out: &mut [u8]) -> usize {
             stretches += 1;
             if state != 0 {
                 on += length;
-                starts += u32::from(before == 0);
+                charge += (first..=last).map(rate).sum::<u32>();
+                if before == 0 {
+                    starts += 1;
+                    charge += sheet.wake * rate(first);
+                }
             }
             before = state;
             first += length;
@@ -86,6 +100,8 @@ fn put_plan(sheet: &Sheet, day: &Day, out: &mut [u8]) -> usize {
         }
         feedings += blower;
     }
+    let cents = (charge + 5) / 10;
+    lines.put([cents / 100, cents % 100, 0, 0]);
     let end = lines.at;
     let energy = on + sheet.wake * starts;
     put_line(&mut out[WORD..at], [energy, starts, stretches, feedings]);

@@ -3,7 +3,7 @@
 use plain::{plan_both, GRID_BYTES, PLAN_BYTES};
 use reference::damage::{damage_meal, damaged_sheet};
 use reference::draws::Draws;
-use reference::generate::{any_sheet, MIDDLE, SMALL};
+use reference::generate::{any_sheet, tight_sheet, FULL, MIDDLE, SMALL};
 use reference::listing;
 
 fn check(sheet: &[u8]) -> u32 {
@@ -27,6 +27,10 @@ fn the_same_as_the_reference() {
         damage_meal(draws, &mut sheet);
         shown[check(&sheet) as usize] += 1;
         shown[check(&damaged_sheet(draws, limits)) as usize] += 1;
+    }
+    // Charges of the later hours.
+    for _ in 0..20 {
+        assert_eq!(check(&tight_sheet(draws, FULL).text()), 0);
     }
     for number in [0, 1, 2, 3, 4, 5, 6, 7, 8, 9, 12, 13] {
         assert!(shown[number] > 0, "no sheet of number {number}");
