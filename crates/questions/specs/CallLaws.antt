@@ -1,7 +1,7 @@
 -- What the calls' answers say: the range of a shortfall, and that yes stands for a sound placing. Assumes nothing.
 use mathlib.Core.Path.{_≡_, refl, _∙_}
 use mathlib.Core.Logic.{_↔_}
-use mathlib.Core.Bool.{Bool, true, false, not, cond}
+use mathlib.Core.Bool.{Bool, true, false, cond}
 use mathlib.Core.List.{List, []}
 use Prim.Native.Nat.{ℕ, _≤_}
 use native.Mathlib.Omega.{arith}
@@ -9,30 +9,28 @@ use lib.Dec.{eqb}
 use lib.IntN.{pos, negsuc}
 use lib.ListN.{length, length-replicate, getD-replicate}
 use lib.Signed.{_≤ℤ_, leZ-yes}
-use borrow.Author.Tests.{eqb-true, eq-eqb, not-false}
+use borrow.Author.Tests.{eqb-true, eq-eqb}
 use Rattle.sheet.specs.Sheet.{sheetOf}
 use Rattle.sheet.specs.Checks.{fault, firstRefusal, faults}
-use Rattle.common.specs.Tests.{or-false}
 use Rattle.sheet.specs.FaultLaws.{numbered-append, numbered-faults, numbered-fault, append-nil-parts, false-fault}
 use Rattle.placing.specs.Schedules.{Schedule, Sound}
 use Rattle.placing.specs.Demands.{demandsOf, fullHigh}
 use Rattle.questions.specs.Calls.{marked, marksFault, marksRefusal, sheetShortfall, shortfallOf, boundsFault, boundsRefusal, cutHighs, sheetFeasible, boundsOf}
 use Rattle.placing.specs.Theorems.{feasible-iff-sound, shortfall-of-day}
 use Rattle.placing.specs.DemandLaws.{accepted-inRange, accepted-blowers, windows-demandsOf}
-use Rattle.questions.specs.MarkSteps.{length-marked}
+use Rattle.questions.specs.CountLaws.{accepted-long, length-marked}
 use Rattle.questions.specs.BoundsSteps.{length-cutHighs}
 
 -- shortfall -------------------------------------------------------------------
 
 -- number 0 stands for a sheet without a fault and one mark for each slot
 unrefused : (b marks : List ℕ) → marksRefusal b marks .number ≡ 0 → (faults b ≡ []) × (length marks ≡ sheetOf b .slots)
-unfolding marksRefusal marksFault
+unfolding marksRefusal
 unrefused b marks z =
     let m = marksFault (sheetOf b .slots) marks in
     let h = append-nil-parts (faults b) (fault 11 0 m)
     (numbered-append (faults b) (fault 11 0 m) (numbered-faults b) (numbered-fault 11 0 m (omega arith)) z) in
-    let l = or-false (not (eqb (length marks) (sheetOf b .slots))) _ (false-fault 11 0 m (h .1)) .0 in
-    (h .0, eqb-true (length marks) (sheetOf b .slots) (not-false _ l))
+    (h .0, accepted-long (sheetOf b .slots) marks (false-fault 11 0 m (h .1)))
 
 sheetShortfall-range : (b marks : List ℕ) → faults b ≡ [] → length marks ≡ sheetOf b .slots
     → (negsuc 767 ≤ℤ sheetShortfall (sheetOf b) marks) × (sheetShortfall (sheetOf b) marks ≤ℤ pos 6144)

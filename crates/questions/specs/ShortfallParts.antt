@@ -1,12 +1,24 @@
 -- What the functions under the call `shortfall` require. Definitions only. Assumes nothing.
+use mathlib.Core.Path.{_≡_}
 use mathlib.Core.List.{List}
-use Prim.Native.Nat.{ℕ, _≤_}
-use lib.ListN.{length}
-use Rattle.sheet.specs.Limits.{maxSlots}
+use Prim.Native.Nat.{ℕ, suc, _-_, _*_, _≤_, _<_}
+use lib.ListN.{length, getD}
+use Rattle.sheet.specs.Limits.{fields, maxSlots, maxRations}
+use Rattle.placing.specs.Rations.{releaseAt, deadlineAt, volumeAt}
+use Rattle.questions.specs.Counts.{markedIn}
 
--- a window that lies in the marked day
-pub record CanForce (marks : List ℕ) (release deadline : ℕ) : Type 0 where
+-- a window whose marks the counts give: they don't fall from before its first slot to its last, and rise by its length at most
+pub record CanCount (before : List ℕ) (release deadline : ℕ) : Type 0 where
   pub first : 1 ≤ release
   pub order : release ≤ deadline
-  pub last : deadline ≤ length marks
-  pub short : length marks ≤ maxSlots
+  pub last : deadline ≤ maxSlots
+  pub long : length before ≡ suc maxSlots
+  pub rising : getD before (release - 1) 0 ≤ getD before deadline 0
+  pub within : markedIn before release deadline ≤ suc deadline - release
+
+-- n rations with such windows
+pub record CanForce (before : List ℕ) (n : ℕ) (numbers : List ℕ) : Type 0 where
+  pub few : n ≤ maxRations
+  pub long : length numbers ≡ fields * maxRations
+  pub small : (j : ℕ) → j < n → volumeAt numbers j ≤ maxSlots
+  pub windows : (j : ℕ) → j < n → CanCount before (releaseAt numbers j) (deadlineAt numbers j)

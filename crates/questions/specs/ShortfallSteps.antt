@@ -1,14 +1,13 @@
 -- The steps of the call `shortfall`: the sum over the rations, and its answer. Assumes nothing.
-use mathlib.Core.Path.{_≡_, refl, sym, ap, subst, _∙_}
-use mathlib.Core.Bool.{Bool, true, false, not}
+use mathlib.Core.Path.{_≡_, sym, ap, ap₂, subst, _∙_}
+use mathlib.Core.Bool.{Bool, true, false}
 use mathlib.Core.List.{List, [], _∷_}
-use Prim.Native.Nat.{ℕ, _+_, _-_, _*_, _≤_, _<_}
+use Prim.Native.Nat.{ℕ, _+_, _-_, _*_, _≤_}
 use native.Mathlib.Nat.{mul-le-mul, mul-comm, suc-mul}
 use native.Mathlib.Omega.{arith}
-use lib.Dec.{eqb}
 use lib.IntN.{ℤ, pos, subℕ}
-use lib.ListN.{length, replicate}
-use borrow.Author.Tests.{eqb-true, ne-eqb, not-false}
+use lib.ListN.{length, getD, replicate}
+use borrow.Author.Tests.{ne-eqb}
 use Rattle.common.specs.Lists.{count}
 use Rattle.sheet.specs.declared.Refusal.{Refusal}
 use Rattle.sheet.specs.declared.Reading.{Reading}
@@ -16,55 +15,78 @@ use Rattle.sheet.specs.Limits.{maxSlots, maxBlowers, maxRations}
 use Rattle.sheet.specs.Sheet.{sheetOf}
 use Rattle.sheet.specs.Checks.{fault, firstRefusal}
 use Rattle.sheet.specs.Calls.{readingOf}
-use Rattle.common.specs.Tests.{or-false}
 use Rattle.theory.specs.Sums.{sum, sum-next, sum-cong, sum-le-mul}
-use Rattle.placing.specs.Slots.{Slots, window, outside, sumOver}
+use Rattle.placing.specs.Slots.{Slots, outside, sumOver}
 use Rattle.placing.specs.Schedules.{noDemand, windowOf, volumeOf}
 use Rattle.placing.specs.Shortfall.{forced, shortfall}
 use Rattle.placing.specs.Demands.{demandsOf, fullHigh}
 use Rattle.questions.specs.Calls.{marked, marksFault, marksRefusal, sheetShortfall, shortfallOf}
 use Rattle.placing.specs.Rations.{releaseAt, deadlineAt, volumeAt, demandsFrom, Rations}
+use Rattle.questions.specs.Counts.{countsBefore, forcedAt, forcedBy}
 use Rattle.questions.specs.ShortfallParts.{CanForce}
 use Rattle.placing.specs.Tabulate.{sum-map}
 use Rattle.placing.specs.ReadLaws.{refused-before, accepted-before, Read, read-accepted}
 use Rattle.placing.specs.RationLaws.{volume-small, length-demandsFrom, demandsFrom-at}
-use Rattle.questions.specs.MarkSteps.{length-marked}
+use Rattle.questions.specs.CountLaws.{accepted-long, length-marked, length-countsBefore, countsBefore-all, counts-window, window-parts, outside-unmarkedIn}
 
 -- forced(Q) -----------------------------------------------------------------------
 
--- what ration j is forced to feed in the marked slots
-abbrev pub forcedAt : List ℕ → List ℕ → ℕ → ℕ
-forcedAt marks numbers j =
-    volumeAt numbers j - outside (window (length marks) (releaseAt numbers j) (deadlineAt numbers j)) (marked marks)
-
-module _ (marks : List ℕ) (n : ℕ) (numbers : List ℕ) (h : Rations (length marks) n numbers) where
-  pub forced-can : (j : ℕ) → j < n → CanForce marks (releaseAt numbers j) (deadlineAt numbers j)
-  forced-can j l = let r = h .each j l in record { first = r .release; order = r .window; last = r .deadline; short = h .short }
-
-  forcedAt-small : (j : ℕ) → j < n → forcedAt marks numbers j ≤ maxSlots
-  forcedAt-small j l = omega (arith, volume-small h j l)
-
+module _ (before : List ℕ) (n : ℕ) (numbers : List ℕ) (h : CanForce before n numbers) where
   -- the sum of the first rations fits
-  pub forced-fits : (j : ℕ) → j ≤ n → sum j (forcedAt marks numbers) ≤ maxRations * maxSlots
+  pub forced-fits : (j : ℕ) → j ≤ n → sum j (forcedAt before numbers) ≤ maxRations * maxSlots
   forced-fits j l =
       omega (
         arith,
-        sum-le-mul j maxSlots (forcedAt marks numbers) (λ i p. forcedAt-small i (omega arith)),
+        sum-le-mul j maxSlots (forcedAt before numbers) (λ i p. omega (arith, h .small i (omega arith))),
         mul-comm j maxSlots,
         h .few,
       )
 
-  pub forced-end : (j : ℕ) → j ≡ n → sum j (forcedAt marks numbers) ≡ forced (demandsFrom (length marks) n numbers) (marked marks)
-  unfolding forced
-  forced-end j e =
-      let ds = demandsFrom (length marks) n numbers in
-      ap (λ i. sum i (forcedAt marks numbers)) e
-      ∙ sym (sum-map (λ d. d .volume - outside (d .window) (marked marks)) noDemand ds
-      ∙ ap (λ i. sum i (λ j. volumeOf ds j - outside (windowOf ds j) (marked marks))) (length-demandsFrom (length marks) n numbers)
-      ∙ sum-cong (λ j l. ap (λ d. d .volume - outside (d .window) (marked marks)) (demandsFrom-at (length marks) n numbers j l)))
+  pub forcedBy-fits : forcedBy before n numbers ≤ maxRations * maxSlots
+  unfolding forcedBy
+  forcedBy-fits = forced-fits n (omega arith)
+
+pub forced-end : (before : List ℕ) (n : ℕ) (numbers : List ℕ) (j : ℕ) → j ≡ n → sum j (forcedAt before numbers) ≡ forcedBy before n numbers
+unfolding forcedBy
+forced-end before n numbers j e = ap (λ i. sum i (forcedAt before numbers)) e
 
 pub forced-next : (f : ℕ → ℕ) (j s r : ℕ) → s ≡ sum j f → r ≡ f j → s + r ≡ sum (j + 1) f
 forced-next f j s r p q = omega (arith, sum-next j f)
+
+module _ (marks : List ℕ) (n : ℕ) (numbers : List ℕ) (h : Rations (length marks) n numbers) where
+  -- the counts of a day's marks serve its rations
+  pub counts-can : CanForce (countsBefore marks) n numbers
+  counts-can =
+      record {
+        few = h .few;
+        long = h .long;
+        small = volume-small h;
+        windows = λ j l.
+            let r = h .each j l in
+            let w = counts-window marks (releaseAt numbers j) (deadlineAt numbers j) (r .release) (r .window) (r .deadline) in
+            let p = window-parts marks (releaseAt numbers j) (deadlineAt numbers j) (r .release) (r .window) (r .deadline) in
+            record {
+              first = r .release;
+              order = r .window;
+              last = omega (arith, r .deadline, h .short);
+              long = length-countsBefore marks (h .short);
+              rising = omega arith;
+              within = omega arith;
+            };
+      }
+
+  -- and what they say is forced is what is
+  pub forcedBy-counts : forcedBy (countsBefore marks) n numbers ≡ forced (demandsFrom (length marks) n numbers) (marked marks)
+  unfolding forced forcedBy
+  forcedBy-counts =
+      let ds = demandsFrom (length marks) n numbers in
+      sym (sum-map (λ d. d .volume - outside (d .window) (marked marks)) noDemand ds
+      ∙ ap (λ i. sum i (λ j. volumeOf ds j - outside (windowOf ds j) (marked marks))) (length-demandsFrom (length marks) n numbers)
+      ∙ sum-cong (λ j l.
+      let r = h .each j l in
+      ap (λ d. d .volume - outside (d .window) (marked marks)) (demandsFrom-at (length marks) n numbers j l)
+      ∙ ap (λ x. volumeAt numbers j - x)
+      (outside-unmarkedIn marks (releaseAt numbers j) (deadlineAt numbers j) (r .release) (r .window) (r .deadline))))
 
 -- Capacity ------------------------------------------------------------------------
 
@@ -97,6 +119,9 @@ module _ (b marks : List ℕ) (r : Reading) (e : r ≡ readingOf b) where
     a : Read b r
     a = read-accepted b r e z
 
+    pub slots-few : r .slots ≤ maxSlots
+    slots-few = a .rations .short
+
     refusal : (t : Bool) → t ≡ marksFault (r .slots) marks → marksRefusal b marks ≡ firstRefusal (fault 11 0 t)
     unfolding marksRefusal
     refusal t f =
@@ -109,37 +134,44 @@ module _ (b marks : List ℕ) (r : Reading) (e : r ≡ readingOf b) where
 
     module _ (f : false ≡ marksFault (r .slots) marks) where
       pub marks-long : length marks ≡ r .slots
-      unfolding marksFault
-      marks-long = eqb-true (length marks) (r .slots) (not-false _ (or-false (not (eqb (length marks) (r .slots))) _ (sym f) .0))
+      marks-long = accepted-long (r .slots) marks (sym f)
 
       pub shortfall-rations : Rations (length marks) (r .rations) (r .numbers)
       shortfall-rations = subst (λ d. Rations d (r .rations) (r .numbers)) (sym marks-long) (a .rations)
 
       pub marks-few : length marks ≤ maxSlots
-      marks-few = shortfall-rations .short
+      marks-few = omega (arith, marks-long, slots-few)
 
-      pub forced-most : forced (demandsFrom (length marks) (r .rations) (r .numbers)) (marked marks) ≤ maxRations * maxSlots
-      forced-most =
-          let h = shortfall-rations in
-          omega (arith, forced-end marks (r .rations) (r .numbers) h (r .rations) refl, forced-fits marks (r .rations) (r .numbers) h (r .rations) (omega arith))
+      module _ (B : List ℕ) (g : B ≡ countsBefore marks) where
+        pub counts-force : CanForce B (r .rations) (r .numbers)
+        counts-force = rw g (counts-can marks (r .rations) (r .numbers) shortfall-rations)
 
-      pub capacity-most : count (marked marks) * r .blowers ≤ maxSlots * maxBlowers
-      capacity-most =
-          let l : count (marked marks) ≤ maxSlots = omega (arith, count-le-length (marked marks), length-marked marks, marks-few) in
-          mul-le-mul l (a .blown)
+        -- |Q|
+        last-count : getD B (r .slots) 0 ≡ count (marked marks)
+        last-count = ap (λ l. getD l (r .slots) 0) g ∙ countsBefore-all marks (r .slots) (sym marks-long)
 
-      pub shortfall-accepted : (x : ℤ) → x ≡ subℕ (forced (demandsFrom (length marks) (r .rations) (r .numbers)) (marked marks)) (count (marked marks) * r .blowers)
-          → record { number = 0; line = 0; shortfall = x } ≡ shortfallOf b marks
-      unfolding shortfallOf firstRefusal sheetShortfall shortfall fullHigh
-      shortfall-accepted x g =
-          rw (refusal false f)
-          (λ i. record {
-            number = 0;
-            line = 0;
-            shortfall = (g
-                ∙ ap (λ ds. subℕ (forced ds (marked marks)) (count (marked marks) * r .blowers))
-                (ap (λ d. demandsFrom d (r .rations) (r .numbers)) marks-long ∙ a .demands)
-                ∙ ap (λ c. subℕ (forced (demandsOf (sheetOf b)) (marked marks)) c) (sym (capacity-full (marked marks) (r .blowers))
-                ∙ ap (λ d. sumOver (replicate d (r .blowers)) (marked marks)) (length-marked marks ∙ marks-long ∙ a .slots)
-                ∙ ap (λ m. sumOver (replicate (sheetOf b .slots) m) (marked marks)) (a .blowers))) i;
-          })
+        pub forced-most : forcedBy B (r .rations) (r .numbers) ≤ maxRations * maxSlots
+        forced-most = forcedBy-fits B (r .rations) (r .numbers) counts-force
+
+        pub capacity-most : getD B (r .slots) 0 * r .blowers ≤ maxSlots * maxBlowers
+        capacity-most =
+            let l : getD B (r .slots) 0 ≤ maxSlots = omega (arith, last-count, count-le-length (marked marks), length-marked marks, marks-few) in
+            mul-le-mul l (a .blown)
+
+        pub shortfall-accepted : (x : ℤ) → x ≡ subℕ (forcedBy B (r .rations) (r .numbers)) (getD B (r .slots) 0 * r .blowers)
+            → record { number = 0; line = 0; shortfall = x } ≡ shortfallOf b marks
+        unfolding shortfallOf firstRefusal sheetShortfall shortfall fullHigh
+        shortfall-accepted x e =
+            rw (refusal false f)
+            (λ i. record {
+              number = 0;
+              line = 0;
+              shortfall = (e
+                  ∙ ap₂ (λ k c. subℕ k (c * r .blowers))
+                  (ap (λ l. forcedBy l (r .rations) (r .numbers)) g ∙ forcedBy-counts marks (r .rations) (r .numbers) shortfall-rations) last-count
+                  ∙ ap (λ ds. subℕ (forced ds (marked marks)) (count (marked marks) * r .blowers))
+                  (ap (λ d. demandsFrom d (r .rations) (r .numbers)) marks-long ∙ a .demands)
+                  ∙ ap (λ c. subℕ (forced (demandsOf (sheetOf b)) (marked marks)) c) (sym (capacity-full (marked marks) (r .blowers))
+                  ∙ ap (λ d. sumOver (replicate d (r .blowers)) (marked marks)) (length-marked marks ∙ marks-long ∙ a .slots)
+                  ∙ ap (λ m. sumOver (replicate (sheetOf b .slots) m) (marked marks)) (a .blowers))) i;
+            })

@@ -1,13 +1,13 @@
-// Slot marks: the list that names a set of slots.
+// Slot marks: the list that names a set of slots, and how many marks lie where.
 ghost use mathlib.Core.Path.{_≡_};
 ghost use mathlib.Core.List.{map};
-ghost use Prim.Native.Nat.{_+_, _-_, _≤_, _<_};
+ghost use Prim.Native.Nat.{_≤_};
 ghost use lib.ListN.{length};
-ghost use Rattle.common.specs.Lists.{count, every};
+ghost use Rattle.common.specs.Lists.{every};
 ghost use Rattle.sheet.specs.Limits.{maxSlots};
-ghost use Rattle.placing.specs.Slots.{window, outside};
-ghost use Rattle.questions.specs.Calls.{isMark, marked, marksFault};
-ghost use Rattle.questions.specs.ShortfallParts.{CanForce};
+ghost use Rattle.questions.specs.Calls.{isMark, marksFault};
+ghost use Rattle.questions.specs.Counts.{countsBefore, markedIn, unmarkedIn};
+ghost use Rattle.questions.specs.ShortfallParts.{CanCount};
 
 // Whether each mark is 0 or 1.
 fn are_marks(marks: &[u8]) -> bool
@@ -33,11 +33,13 @@ pub fn is_faulty(slots: usize, marks: &[u8]) -> bool
     !are_marks(marks)
 }
 
-// |Q|: how many slots are marked.
-pub fn marked_slots(marks: &[u8]) -> u32
+// The marks counted from slot 1 on: place t has how many of the slots 1 to t are marked, and 0 past the day's last slot. One pass over the marks
+// serves every window of the set.
+pub fn counts_before(marks: &[u8]) -> [u32; 97]
     requires { ⌜ length (now marks) ≤ maxSlots ⌝ }
-    ensures { λ r. ⌜ r ≡ count (marked (now (marks .entry))) ⌝ }
+    ensures { λ r. ⌜ r ≡ countsBefore (now (marks .entry)) ⌝ }
 {
+    let mut before = [0u32; 97];
     let mut n = 0;
     let mut t = 0;
     while t < marks.len() {
@@ -45,22 +47,23 @@ pub fn marked_slots(marks: &[u8]) -> u32
             n += 1;
         }
         t += 1;
+        before[t] = n;
     }
-    n
+    before
 }
 
-// |E outside Q|: how many slots of a window are not marked.
-pub fn unmarked_slots(marks: &[u8], release: usize, deadline: usize) -> u32
-    requires { ⌜ CanForce (now marks) release deadline ⌝ }
-    ensures { λ r. ⌜ r ≡ outside (window (length (now (marks .entry))) release deadline) (marked (now (marks .entry))) ⌝ }
+// |E inside Q|: the marks up to a window's last slot, less those before its first.
+fn marked_in(before: &[u32; 97], release: usize, deadline: usize) -> u32
+    requires { ⌜ CanCount (now before) release deadline ⌝ }
+    ensures { λ r. ⌜ r ≡ markedIn (now (before .entry)) release deadline ⌝ }
 {
-    let mut n = 0;
-    let mut t = release - 1;
-    while t < deadline {
-        if marks[t] != 1 {
-            n += 1;
-        }
-        t += 1;
-    }
-    n
+    before[deadline] - before[release - 1]
+}
+
+// |E outside Q|: a window's length, less the marks in it.
+pub fn unmarked_in(before: &[u32; 97], release: u32, deadline: u32) -> u32
+    requires { ⌜ CanCount (now before) release deadline ⌝ }
+    ensures { λ r. ⌜ r ≡ unmarkedIn (now (before .entry)) release deadline ⌝ }
+{
+    deadline + 1 - release - marked_in(before, release as usize, deadline as usize)
 }

@@ -2,38 +2,36 @@
 use crate::ShortfallAnswer;
 use crate::marks;
 ghost use mathlib.Core.Path.{_≡_};
-ghost use Prim.Native.Nat.{_-_, _*_, _≤_, _<_};
-ghost use lib.ListN.{length};
+ghost use Prim.Native.Nat.{_-_, _*_, _≤_};
 ghost use lib.IntN.{subℕ};
 ghost use Rattle.sheet.specs.Limits.{maxSlots, maxBlowers, maxRations};
-ghost use Rattle.placing.specs.Slots.{window, outside};
-ghost use Rattle.placing.specs.Shortfall.{forced};
-ghost use Rattle.placing.specs.Rations.{demandsFrom, Rations};
-ghost use Rattle.questions.specs.Calls.{marked, shortfallOf};
-ghost use Rattle.questions.specs.ShortfallParts.{CanForce};
+ghost use Rattle.questions.specs.Calls.{shortfallOf};
+ghost use Rattle.questions.specs.Counts.{unmarkedIn, forcedBy};
+ghost use Rattle.questions.specs.ShortfallParts.{CanCount, CanForce};
 
-// What one ration is forced to take: the larger of 0 and its volume less the slots of its window that are not marked.
-fn forced_of(marks: &[u8], release: u32, deadline: u32, volume: u32) -> u32
-    requires { ⌜ CanForce (now marks) release deadline ⌝ }
-    ensures { λ r. ⌜ r ≡ volume - outside (window (length (now (marks .entry))) release deadline) (marked (now (marks .entry))) ⌝ }
+// What one ration is forced to take: the larger of 0 and its volume less the slots of its window that are not marked. `before` has the marks counted
+// from slot 1 on.
+fn forced_of(before: &[u32; 97], release: u32, deadline: u32, volume: u32) -> u32
+    requires { ⌜ CanCount (now before) release deadline ⌝ }
+    ensures { λ r. ⌜ r ≡ volume - unmarkedIn (now (before .entry)) release deadline ⌝ }
 {
-    let free = marks::unmarked_slots(marks, release as usize, deadline as usize);
+    let free = marks::unmarked_in(before, release, deadline);
     if volume < free {
         return 0;
     }
     volume - free
 }
 
-// forced(Q): the sum over n rations. It costs a walk over each ration's window.
-fn forced(marks: &[u8], n: usize, numbers: &[u32; 256]) -> u32
-    requires { ⌜ Rations (length (now marks)) n (now numbers) ⌝ }
-    ensures { λ r. ⌜ r ≡ forced (demandsFrom (length (now (marks .entry))) n (now (numbers .entry))) (marked (now (marks .entry))) ⌝ }
+// forced(Q): the sum over n rations. Two counts for each, however long its window is.
+fn forced(before: &[u32; 97], n: usize, numbers: &[u32; 256]) -> u32
+    requires { ⌜ CanForce (now before) n (now numbers) ⌝ }
+    ensures { λ r. ⌜ r ≡ forcedBy (now (before .entry)) n (now (numbers .entry)) ⌝ }
 {
     let mut sum = 0;
     let mut j = 0;
     while j < n {
         let at = 4 * j;
-        sum += forced_of(marks, numbers[at + 1], numbers[at + 2], numbers[at + 3]);
+        sum += forced_of(before, numbers[at + 1], numbers[at + 2], numbers[at + 3]);
         j += 1;
     }
     sum
@@ -60,16 +58,19 @@ pub fn shortfall(b: &[u8], marks: &[u8]) -> ShortfallAnswer
             shortfall: 0,
         };
     }
-    if marks::is_faulty(sheet.slots as usize, marks) {
+    let slots = sheet.slots as usize;
+    if marks::is_faulty(slots, marks) {
         return ShortfallAnswer {
             number: 11,
             line: 0,
             shortfall: 0,
         };
     }
+    let before = marks::counts_before(marks);
     let numbers = sheet.numbers;
-    let f = forced(marks, sheet.rations as usize, &numbers);
-    let capacity = marks::marked_slots(marks) * sheet.blowers;
+    let f = forced(&before, sheet.rations as usize, &numbers);
+    // |Q| × m: the last count is that of the whole day.
+    let capacity = before[slots] * sheet.blowers;
     ShortfallAnswer {
         number: 0,
         line: 0,

@@ -1,20 +1,21 @@
--- `placing::shortfalls::forced` meets its contract: after j rations it has the sum of what they are forced to feed. Assumes nothing.
+-- `questions::shortfalls::forced` meets its contract: after j rations it has the sum of what they are forced to feed. Assumes nothing.
 use mathlib.Core.Path.{_≡_, sym, _∙_}
 use Prim.Native.Nat.{_+_, _-_, _≤_}
 use Rattle.theory.specs.Sums as S
-use Rattle.questions.specs.ShortfallSteps.{forcedAt, forced-can, forced-fits, forced-next, forced-end}
+use Rattle.questions.specs.Counts.{forcedAt}
+use Rattle.questions.specs.ShortfallSteps.{forced-fits, forced-next, forced-end}
 use native.Mathlib.Omega.{arith}
 use Rattle.questions.proofs.shortfalls.forced.Statement.{statement}
 use Rattle.questions.proofs.shortfalls.forced.Tie as tie
 
 abbrev Inv-loop : tie.InvT-loop
-Inv-loop marks n numbers sum₀ j₀ sum j = (j ≤ n) × (sum ≡ S.sum j (forcedAt marks numbers))
+Inv-loop before n numbers sum₀ j₀ sum j = (j ≤ n) × (sum ≡ S.sum j (forcedAt before numbers))
 
 abbrev μ-loop : tie.MeasureT-loop
-μ-loop marks n numbers sum₀ j₀ sum j = n - j
+μ-loop before n numbers sum₀ j₀ sum j = n - j
 
 loop-holds : tie.Need-loop-holds Inv-loop μ-loop
-loop-holds c = (omega arith, sym (S.sum-none (forcedAt (c .before .args .marks .now) (c .before .args .numbers .now))))
+loop-holds c = (omega arith, sym (S.sum-none (forcedAt (c .args .before .now) (c .args .numbers .now))))
 
 mul-at : tie.Need-mul-at Inv-loop μ-loop
 mul-at c = omega arith
@@ -47,10 +48,10 @@ element-copy-out-forced-of-3 : tie.Need-element-copy-out-forced-of-3 Inv-loop μ
 element-copy-out-forced-of-3 c = omega arith
 
 forced-of-requires : tie.Need-forced-of-requires Inv-loop μ-loop
-forced-of-requires c κs = forced-can (c .before .before .before .before .before .before .args .marks .now) _ _ (c .before .before .before .before .before .before .pre) _ (omega arith)
+forced-of-requires c κs = c .before .before .before .before .before .pre .windows (c .before .before .before .before .loop .j) (omega arith)
 
 add-sum : tie.Need-add-sum Inv-loop μ-loop
-add-sum c = omega (arith, forced-next (forcedAt (c .before .before .before .before .before .before .before .args .marks .now) (c .before .before .before .before .before .before .before .args .numbers .now)) (c .before .before .before .before .before .loop .j) _ _ (c .before .before .before .before .before .loop .inv .1) (c .forced-of .ensures), forced-fits (c .before .before .before .before .before .before .before .args .marks .now) _ _ (c .before .before .before .before .before .before .before .pre) (c .before .before .before .before .before .loop .j + 1) (omega arith))
+add-sum c = omega (arith, forced-next (forcedAt (c .before .before .before .before .before .before .args .before .now) (c .before .before .before .before .before .before .args .numbers .now)) (c .before .before .before .before .before .loop .j) _ _ (c .before .before .before .before .before .loop .inv .1) (c .forced-of .ensures), forced-fits (c .before .before .before .before .before .before .args .before .now) _ _ (c .before .before .before .before .before .before .pre) (c .before .before .before .before .before .loop .j + 1) (omega arith))
 
 add-j : tie.Need-add-j Inv-loop μ-loop
 add-j c = omega arith
@@ -59,10 +60,10 @@ loop-less : tie.Need-loop-less Inv-loop μ-loop
 loop-less c = omega arith
 
 loop-again : tie.Need-loop-again Inv-loop μ-loop
-loop-again c = (omega arith, forced-next (forcedAt (c .before .before .before .before .before .before .before .args .marks .now) (c .before .before .before .before .before .before .before .args .numbers .now)) (c .before .before .before .before .before .loop .j) _ _ (c .before .before .before .before .before .loop .inv .1) (c .forced-of .ensures))
+loop-again c = (omega arith, forced-next (forcedAt (c .before .before .before .before .before .before .args .before .now) (c .before .before .before .before .before .before .args .numbers .now)) (c .before .before .before .before .before .loop .j) _ _ (c .before .before .before .before .before .loop .inv .1) (c .forced-of .ensures))
 
 returns : tie.Need-returns Inv-loop μ-loop
-returns c = c .before .loop .inv .1 ∙ forced-end (c .before .before .before .args .marks .now) _ _ (c .before .before .before .pre) _ (omega arith)
+returns c = c .before .loop .inv .1 ∙ forced-end (c .before .before .args .before .now) _ _ _ (omega arith)
 
 pub forced-spec : {M : Type 1} → statement M
 forced-spec =
