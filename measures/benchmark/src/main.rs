@@ -17,8 +17,10 @@ const USAGE: &str = "usage: benchmark planning SHEETS SLOW-SHEETS [LEMON-PROGRAM
        benchmark questions SHEETS SLOW-SHEETS
        benchmark growth SHEETS PLOT
        benchmark once library|plain KIND SHEETS
+       benchmark shortfall library|plain|by-slot KIND SHEETS
 SLOW-SHEETS is how many of the sheets the slower implementations get. PLOT is the file that the
-plot is written to. `once` plans each sheet once, for instructions to be counted.";
+plot is written to. `once` plans each sheet once, and `shortfall` asks the shortfall of each once,
+for instructions to be counted.";
 
 fn answer(words: &[&str]) -> Option<Result<(), String>> {
     Some(match *words {
@@ -32,6 +34,10 @@ fn answer(words: &[&str]) -> Option<Result<(), String>> {
         ["once", engine, kind, count] => {
             let engine = engines::named(engine)?;
             engines::once(engine, sheets::Kind::named(kind)?, count.parse().ok()?);
+            Ok(())
+        }
+        ["shortfall", program, kind, count] => {
+            questions::once(program, sheets::Kind::named(kind)?, count.parse().ok()?)?;
             Ok(())
         }
         _ => return None,

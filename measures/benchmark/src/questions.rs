@@ -55,23 +55,30 @@ fn times<A>(all: &[Asked], call: Call<A>, batch: u32) -> Times {
     Times::of(least)
 }
 
+/// A program, by its name in the table.
+type Program<'a, A> = (&'a str, Call<A>);
+
+/// The library beside programs that answer every sheet, and one that answers the first `slow`.
 fn compare<A: PartialEq>(
     name: &str,
     all: &[Asked],
     slow: usize,
-    calls: [Call<A>; 3],
+    library: Call<A>,
+    others: &[Program<A>],
+    reference: Call<A>,
 ) -> Result<(), String> {
-    let [library, plain, reference] = calls;
     let some = &all[..slow];
-    let same = all.iter().all(|a| library(a) == plain(a));
-    if !same || !some.iter().all(|a| library(a) == reference(a)) {
+    let same = |call: Call<A>, asked: &[Asked]| asked.iter().all(|a| library(a) == call(a));
+    if !others.iter().all(|&(_, call)| same(call, all)) || !same(reference, some) {
         return Err(format!("{name} is answered in two ways"));
     }
     let own = times(all, library, BATCH);
-    let other = times(all, plain, BATCH);
-    let ratio = other.median() / own.median();
     println!("| {name} | library | {} | 1 |", own.cells());
-    println!("| {name} | plain Rust | {} | {ratio:.2} |", other.cells());
+    for &(program, call) in others {
+        let other = times(all, call, BATCH);
+        let ratio = other.median() / own.median();
+        println!("| {name} | {program} | {} | {ratio:.2} |", other.cells());
+    }
     if slow > 0 {
         let own = times(some, library, BATCH);
         let other = times(some, reference, 1);
@@ -81,30 +88,71 @@ fn compare<A: PartialEq>(
     Ok(())
 }
 
+/// Number, line, shortfall.
+type Shortfall = (u32, u32, i32);
+
+fn library_shortfall(a: &Asked) -> Shortfall {
+    let answer = library::shortfall(&a.sheet, &a.marks);
+    (answer.number, answer.line, answer.shortfall)
+}
+
+/// Under a name that a counter of instructions finds.
+#[no_mangle]
+#[inline(never)]
+fn plain_shortfall(a: &Asked) -> Shortfall {
+    plain::shortfall(&a.sheet, &a.marks)
+}
+
+/// As `plain_shortfall`.
+#[no_mangle]
+#[inline(never)]
+fn plain_shortfall_by_slot(a: &Asked) -> Shortfall {
+    plain::shortfall_by_slot(&a.sheet, &a.marks)
+}
+
 pub fn run(count: usize, slow: usize) -> Result<(), String> {
     println!("Questions about {count} full sheets, microseconds of processor time a call.\n");
     println!("| Call | Program | Median | 99th percentile | Worst | Times |");
     println!("|---|---|---|---|---|---|");
     for kind in [Kind::WholeDay, Kind::Mixed] {
         let all = asked(kind, count);
-        let calls: [Call<(u32, u32, i32)>; 3] = [
-            |a| {
-                let answer = library::shortfall(&a.sheet, &a.marks);
-                (answer.number, answer.line, answer.shortfall)
-            },
-            |a| plain::shortfall(&a.sheet, &a.marks),
+        compare(
+            &format!("shortfall, {}", kind.name()),
+            &all,
+            slow,
+            library_shortfall,
+            &[
+                ("plain Rust", plain_shortfall),
+                ("plain Rust, slot by slot", plain_shortfall_by_slot),
+            ],
             |a| reference::placing::shortfall(&a.sheet, &a.marks),
-        ];
-        compare(&format!("shortfall, {}", kind.name()), &all, slow, calls)?;
-        let calls: [Call<(u32, u32, bool)>; 3] = [
-            |a| {
-                let answer = library::bounds(&a.sheet, &a.lows, &a.highs);
-                (answer.number, answer.line, answer.yes)
-            },
-            |a| plain::bounds(&a.sheet, &a.lows, &a.highs),
+        )?;
+        let library: Call<(u32, u32, bool)> = |a| {
+            let answer = library::bounds(&a.sheet, &a.lows, &a.highs);
+            (answer.number, answer.line, answer.yes)
+        };
+        compare(
+            &format!("bounds, {}", kind.name()),
+            &all,
+            slow,
+            library,
+            &[("plain Rust", |a| plain::bounds(&a.sheet, &a.lows, &a.highs))],
             |a| reference::placing::bounds(&a.sheet, &a.lows, &a.highs),
-        ];
-        compare(&format!("bounds, {}", kind.name()), &all, slow, calls)?;
+        )?;
     }
     Ok(())
+}
+
+/// Asks the shortfall of every sheet once.
+pub fn once(program: &str, kind: Kind, count: usize) -> Option<()> {
+    let call: Call<Shortfall> = match program {
+        "library" => library_shortfall,
+        "plain" => plain_shortfall,
+        "by-slot" => plain_shortfall_by_slot,
+        _ => return None,
+    };
+    for a in &asked(kind, count) {
+        black_box(call(a));
+    }
+    Some(())
 }

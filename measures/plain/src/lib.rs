@@ -8,7 +8,7 @@ mod search;
 mod sheet;
 
 pub use listing::{plan, plan_both, GRID_BYTES, PLAN_BYTES};
-pub use loads::{bounds, shortfall};
+pub use loads::{bounds, shortfall, shortfall_by_slot};
 
 pub const SLOTS: usize = 96;
 pub const RATIONS: usize = 64;

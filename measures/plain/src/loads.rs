@@ -2,7 +2,7 @@
 //! calls `shortfall` and `bounds`.
 
 use crate::search::{has_room, push};
-use crate::sheet::{read, Sheet};
+use crate::sheet::{read, Ration, Refusal, Sheet};
 use crate::{Bytes, Words, SLOTS};
 
 /// A sound placing under bounds: a slot's low is its rations less `spare`.
@@ -145,26 +145,56 @@ pub fn full_highs(sheet: &Sheet) -> Bytes {
     high
 }
 
-/// The shortfall of the marked slots: number, line, shortfall.
-pub fn shortfall(bytes: &[u8], marks: &[u8]) -> (u32, u32, i32) {
-    let sheet = match read(bytes) {
+/// What `shortfall` answers: number, line, shortfall.
+type Answer = (u32, u32, i32);
+
+/// The sheet, where neither it nor the marks are refused.
+fn accepted(bytes: &[u8], marks: &[u8]) -> Result<Sheet, Refusal> {
+    let sheet = read(bytes)?;
+    if marks.len() != sheet.slots || marks.iter().any(|&m| m > 1) {
+        return Err((11, 0));
+    }
+    Ok(sheet)
+}
+
+/// Forced less capacity, where `unmarked` has how many slots of a window are not marked.
+fn difference(sheet: &Sheet, marked: u32, unmarked: impl Fn(&Ration) -> u32) -> i32 {
+    let rations = sheet.rations().iter();
+    let forced: u32 = rations.map(|r| r.volume.saturating_sub(unmarked(r))).sum();
+    forced as i32 - (marked * u32::from(sheet.blowers)) as i32
+}
+
+/// The shortfall of the marked slots, a window's marks being the difference of two counts.
+pub fn shortfall(bytes: &[u8], marks: &[u8]) -> Answer {
+    let sheet = match accepted(bytes, marks) {
         Ok(sheet) => sheet,
         Err((number, line)) => return (number, line, 0),
     };
-    if marks.len() != sheet.slots || marks.iter().any(|&m| m > 1) {
-        return (11, 0, 0);
+    let mut before = [0; SLOTS + 1];
+    let mut marked = 0;
+    for (&mark, count) in marks.iter().zip(&mut before[1..]) {
+        marked += u32::from(mark == 1);
+        *count = marked;
     }
-    let forced: u32 = sheet
-        .rations()
-        .iter()
-        .map(|r| {
-            let window = &marks[r.first as usize - 1..r.last as usize];
-            let free = window.iter().filter(|&&m| m != 1).count() as u32;
-            r.volume.saturating_sub(free)
-        })
-        .sum();
-    let marked = marks.iter().filter(|&&m| m == 1).count() as i32;
-    (0, 0, forced as i32 - marked * i32::from(sheet.blowers))
+    let unmarked = |r: &Ration| {
+        let (first, last) = (r.first as usize, r.last as usize);
+        r.last + 1 - r.first - (before[last] - before[first - 1])
+    };
+    (0, 0, difference(&sheet, marked, unmarked))
+}
+
+/// The same, with a look at every slot of every window.
+pub fn shortfall_by_slot(bytes: &[u8], marks: &[u8]) -> Answer {
+    let sheet = match accepted(bytes, marks) {
+        Ok(sheet) => sheet,
+        Err((number, line)) => return (number, line, 0),
+    };
+    let marked = marks.iter().filter(|&&m| m == 1).count() as u32;
+    let unmarked = |r: &Ration| {
+        let window = &marks[r.first as usize - 1..r.last as usize];
+        window.iter().filter(|&&m| m != 1).count() as u32
+    };
+    (0, 0, difference(&sheet, marked, unmarked))
 }
 
 /// The bounds question: number, line, answer.
