@@ -1,12 +1,13 @@
 -- Laws of the lists that the layers share. Assumes nothing.
 use mathlib.Core.Path.{_≡_, refl, sym, ap, _∙_}
+use mathlib.Core.Bool.{Bool, true, false}
 use mathlib.Core.List.{List, [], _∷_, _++_, append-assoc}
 use Prim.Native.Nat.{ℕ, zero, suc, _+_, _-_, _<_, _≤_}
 use native.Mathlib.Numerals.{add-one}
 use native.Mathlib.Omega.{arith}
 use lib.ListN.{length, getD, take, drop, replicate}
 use lib.Seq.{drop-cons}
-use Rattle.common.specs.Lists.{part, range, flatMap}
+use Rattle.common.specs.Lists.{part, range, count, flatMap}
 
 module _ {A : Type 0} where
   -- a part that is not empty has its first element and the part after it
@@ -60,3 +61,11 @@ drop-replicate (suc k) (suc n) a = drop-replicate k n a ∙ ap (λ m. replicate 
   where
     less : (n k : ℕ) → n - k ≡ suc n - suc k
     less n k = omega arith
+
+-- ---- counts
+
+-- at most every test passes
+pub count-le-length : (bs : List Bool) → count bs ≤ length bs
+count-le-length [] = omega arith
+count-le-length (true ∷ bs) = omega (arith, count-le-length bs)
+count-le-length (false ∷ bs) = omega (arith, count-le-length bs)

@@ -1,4 +1,4 @@
--- The grid of feedings and the search on it. Definitions first: bits of a word, the grid, what the search requires and ensures. Then the laws,
+-- The grid of feedings and the search on it. Definitions first: the grid, what the search requires and ensures. Then the laws,
 -- a file for each step: moves, one move found, marks, the front of a search, how it spreads, how a ration is carried along the chain.
 pub mod Theory
 pub mod Grid

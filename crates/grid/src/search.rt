@@ -8,7 +8,6 @@ ghost use lib.Dec.{ltb};
 ghost use Rattle.grid.specs.Grid.{Move};
 ghost use Rattle.grid.specs.Search.{CanShift, Open, Straight, CanLook, Looked, CanSweep, Swept, CanSpread, Sought, IsParent, CanParent, Parent, CanCarry, Carried, CanPush, Pushed};
 use crate::SLOTS;
-use crate::bits;
 
 // Moves a ration from slot x to slot y.
 pub fn shift(fed: &mut [u64; SLOTS], rest: &mut [u64; SLOTS], x: usize, y: usize)

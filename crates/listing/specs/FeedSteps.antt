@@ -12,6 +12,7 @@ use lib.ListN.{length, getD, take, set, replicate, length-set, getD-replicate, L
 use lib.Seq.{getD-set-same, getD-set-other}
 use Rattle.common.specs.Lists.{range, flatMap, zipWith, count}
 use Rattle.common.specs.Bits.{bit, bit-lt, bit-of-zero, sub-same, sub-other}
+use Rattle.bits.specs.Lowest.{Lowest}
 use Rattle.sheet.specs.Limits.{lineBytes, fields, maxRations}
 use Rattle.sheet.specs.Sheet.{writeLine}
 use Rattle.sheet.specs.Parts.{putAt}
@@ -19,7 +20,7 @@ use Rattle.placing.specs.Slots.{Slots}
 use Rattle.listing.specs.Lines.{Line, line, partAt, slotLines, feedLines}
 use Rattle.listing.specs.Inputs.{tankAt, tanksOf, rowOf, placingOf}
 use Rattle.listing.specs.Putting.{Put, Putting, Room, putting-begin, putting-more, putting-room, putting-end, put-one}
-use Rattle.listing.specs.SetBits.{setBits, setBits-zero, setBits-lowest, length-setBits, lowest-below, lowest-one}
+use Rattle.listing.specs.SetBits.{setBits, setBits-zero, setBits-lowest, length-setBits}
 use Rattle.listing.specs.FeedLaws.{wordLines, length-wordLines, slotLines-word, partAt-rowOf, count-take-le}
 
 -- Parts ------------------------------------------------------------------------------
@@ -48,9 +49,9 @@ module _ (word : ℕ) (old : List ℕ) (can : CanAddParts old) where
     pub parts-end : rest ≡ 0 → PartsAdded word old new
     parts-end e = record { long = p .long; each = λ j. omega (arith, p .each j, ap (λ w. bit w j) e, bit-of-zero j) }
 
-    module _ (n : rest ≢ 0) (j : ℕ) (e : j ≡ trailingZeros 64 rest) where
+    module _ (j : ℕ) (l : Lowest rest j) where
       pub parts-few : getD new j 0 ≤ 96
-      parts-few = omega (arith, p .each j, lowest-one rest (p .word-fits) n j e, can .few j, bit-lt word j)
+      parts-few = omega (arith, p .each j, can .few j, bit-lt word j)
 
       pub parts-more : (rest′ : ℕ) → rest′ ≡ rest - 2 ^ j → AddingParts word rest′ old (set new j (getD new j 0 + 1))
       parts-more rest′ r =
@@ -60,14 +61,11 @@ module _ (word : ℕ) (old : List ℕ) (can : CanAddParts old) where
             each = λ i. go i (decEq i j);
           }
         where
-          is-one : bit rest j ≡ 1
-          is-one = lowest-one rest (p .word-fits) n j e
-
           go : (i : ℕ) → Dec (i ≡ j) → getD (set new j (getD new j 0 + 1)) i 0 + bit rest′ i ≡ getD old i 0 + bit word i
           go i (yes q) =
-              rw (q, getD-set-same new j (getD new j 0 + 1) 0 (omega (arith, lowest-below rest (p .word-fits) n j e, p .long)), r)
-              (omega (arith, sub-same rest j is-one, is-one, p .each j))
-          go i (no q) = rw (getD-set-other new j i (getD new j 0 + 1) 0 q, r, sub-other rest j i is-one q) (p .each i)
+              rw (q, getD-set-same new j (getD new j 0 + 1) 0 (omega (arith, l .below, p .long)), r)
+              (omega (arith, sub-same rest j (l .one), p .each j))
+          go i (no q) = rw (getD-set-other new j i (getD new j 0 + 1) 0 q, r, sub-other rest j i (l .one) q) (p .each i)
 
 -- One feeding ------------------------------------------------------------------------
 
@@ -105,13 +103,13 @@ module _ (slot word : ℕ) (numbers parts : List ℕ) (at : ℕ) (old : List ℕ
     pub slot-few : n ≤ 64
     slot-few = omega (arith, p .putting .number, length-wordLines slot numbers parts 1 (setBits 0 64 word), length-setBits 0 64 word)
 
-    module _ (not-none : rest ≢ 0) (j : ℕ) (e : j ≡ trailingZeros 64 rest) where
+    module _ (not-none : rest ≢ 0) (j : ℕ) (l : Lowest rest j) where
       -- its line, and those of the other bits
       next : wordLines slot numbers parts (suc n) (setBits 0 64 rest)
           ≡ (line slot (n + 1) (tankAt numbers j) (getD parts j 0) ∷ []) ++ wordLines slot numbers parts (suc (n + 1)) (setBits 0 64 (rest - 2 ^ j))
       unfolding wordLines
       next =
-          ap (wordLines slot numbers parts (suc n)) (setBits-lowest 64 0 rest (p .word-fits) not-none ∙ bits (0 + trailingZeros 64 rest) (trailingZeros 64 rest) (omega (arith, e)) (sym e))
+          ap (wordLines slot numbers parts (suc n)) (setBits-lowest 64 0 rest (p .word-fits) not-none ∙ bits (0 + trailingZeros 64 rest) (trailingZeros 64 rest) (omega arith) (sym (l .least)))
           ∙ rw (← add-one n)
         where
           bits : (y z : ℕ) → y ≡ j → z ≡ j → y ∷ setBits 0 64 (rest - 2 ^ z) ≡ j ∷ setBits 0 64 (rest - 2 ^ j)
@@ -122,7 +120,7 @@ module _ (slot word : ℕ) (numbers parts : List ℕ) (at : ℕ) (old : List ℕ
           record {
             tanks = can .tanks;
             long = can .long;
-            ration = lowest-below rest (p .word-fits) not-none j e;
+            ration = l .below;
             room = omega (arith, putting-room at old _ (can .room) (line slot (n + 1) (tankAt numbers j) (getD parts j 0) ∷ []) (wordLines slot numbers parts (suc (n + 1)) (setBits 0 64 (rest - 2 ^ j))) (p .putting) next);
           }
 

@@ -10,7 +10,7 @@ use lib.Dec.{ltb}
 use lib.ListN.{length, getD, take, length-map, length-take}
 use borrow.Author.Tests.{lt-ltb, le-ltb}
 use Rattle.common.specs.Lists.{part, count}
-use Rattle.common.specs.ListLaws.{part-cons, part-none, part-front}
+use Rattle.common.specs.ListLaws.{part-cons, part-none, part-front, count-le-length}
 use Rattle.sheet.specs.Limits.{lineBytes, maxSlots, maxBlowers}
 use Rattle.sheet.specs.Sheet.{writeLine}
 use Rattle.sheet.specs.Parts.{putAt}
@@ -19,7 +19,6 @@ use Rattle.placing.specs.Slots.{Slots}
 use Rattle.listing.specs.Sizes.{wordBytes, planBytes}
 use Rattle.listing.specs.Lines.{Line, line, membersFrom, memberLines, heldLines}
 use Rattle.listing.specs.Text.{writeLines, heldWord, heldText}
-use Rattle.listing.specs.LengthLaws.{count-le}
 use Rattle.listing.specs.Inputs.{setOf}
 use Rattle.listing.specs.Putting.{Put, Putting, Room, putting-begin, putting-more, putting-room, putting-end, put-one, putAt-nothing, length-writeLines}
 use Rattle.listing.specs.Opening.{Written, listing-written, listing-length}
@@ -117,7 +116,7 @@ module _ (slots blowers : ℕ) (marks old : List ℕ) (can : CanPutHeld old slot
   members-few : length (memberLines 1 (setOf slots marks)) ≤ 96
   unfolding setOf
   members-few =
-      omega (arith, length-memberLines 1 (setOf slots marks), count-le (setOf slots marks), length-map (take slots marks) (ltb 0), length-take slots marks, can .day)
+      omega (arith, length-memberLines 1 (setOf slots marks), count-le-length (setOf slots marks), length-map (take slots marks) (ltb 0), length-take slots marks, can .day)
 
   pub held-can : (o₁ : List ℕ) → o₁ ≡ putAt 0 heldWord old → CanPutMembers o₁ (wordBytes + lineBytes) slots marks
   held-can o₁ e =

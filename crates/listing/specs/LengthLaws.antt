@@ -1,7 +1,6 @@
--- How many lines a plan has: at most one stretch for each slot of each blower, and one feed line for each feeding. And how many slots a set has. Assumes
--- nothing.
+-- How many lines a plan has: at most one stretch for each slot of each blower, and one feed line for each feeding. Assumes nothing.
 use mathlib.Core.Path.{_≡_, refl, sym, ap, _∙_}
-use mathlib.Core.Bool.{Bool, true, false, cond}
+use mathlib.Core.Bool.{cond}
 use mathlib.Core.List.{List, [], _∷_, _++_, map}
 use Prim.Native.Nat.{ℕ, zero, suc, _+_, _*_, _/_, _%_, _^_, _≤_, _<_}
 use native.Mathlib.Nat.{suc-mul, pow-succ'}
@@ -9,20 +8,13 @@ use native.Mathlib.Omega.{arith}
 use lib.Count.{ones, ones-step}
 use lib.Dec.{eqb}
 use lib.ListN.{length, getD, length-append, length-map}
-use Rattle.common.specs.Lists.{range, count, flatMap, zipWith}
-use Rattle.placing.specs.Slots.{Slots}
+use Rattle.common.specs.Lists.{range, flatMap, zipWith}
 use Rattle.stretches.specs.Intervals.{intervals}
 use Rattle.energy.specs.EnergyLaws.{length-intervals}
 use Rattle.listing.specs.Lines.{Line, stretchLine, blowerLines, stretchLines, partAt, slotLines, feedLines}
 use Rattle.listing.specs.Inputs.{tanksOf, rowOf, placingOf}
 use Rattle.listing.specs.SetBits.{setBits}
 use Rattle.listing.specs.FeedLaws.{wordLines, length-wordLines, slotLines-word}
-
--- at most every slot of the day is in a set
-pub count-le : (q : Slots) → count q ≤ length q
-count-le [] = omega arith
-count-le (true ∷ q) = omega (arith, count-le q)
-count-le (false ∷ q) = omega (arith, count-le q)
 
 -- as many lines for each of n numbers as c at most
 pub length-flatMap-range : (f : ℕ → List Line) (c a n : ℕ) → ((k : ℕ) → a ≤ k → k < a + n → length (f k) ≤ c) → length (flatMap f (range a n)) ≤ n * c

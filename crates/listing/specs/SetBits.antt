@@ -8,7 +8,6 @@ use native.Mathlib.Nat.{pow-suc, pow-succ', div-one, div-div-eq-div-mul, zero-di
 use native.Mathlib.Omega.{arith}
 use lib.Count.{trailingZeros, under}
 use lib.Dec.{eqb}
-use lib.Pow.{pow-pos}
 use lib.ListN.{length}
 use borrow.Author.Tests.{eq-eqb, ne-eqb}
 use Rattle.common.specs.Lists.{range, keep}
@@ -83,16 +82,3 @@ setBits-lowest (suc k) j w h n = go (setBits-lowest k (suc j) (w / 2) (omega (ar
         let h₂ : (w - 1) / 2 ≡ w / 2 = omega arith in
         ap (λ l. l ++ setBits (suc j) k (w / 2)) (some (w % 2) (omega arith))
         ∙ ap₂ (λ (a : ℕ) (l : List ℕ). a ∷ l) (omega arith) (sym (ap₂ (λ (l m : List ℕ). l ++ m) (none ((w - 1) % 2) (omega arith)) (ap (setBits (suc j) k) h₂)))
-
--- A word's lowest bit --------------------------------------------------------------
-
-module _ (w : ℕ) (fits : w < 2 ^ 64) (some : w ≢ 0) (j : ℕ) (e : j ≡ trailingZeros 64 w) where
-  pub lowest-below : j < 64
-  lowest-below = rw e (lowest-bit 64 w fits some .0)
-
-  pub lowest-one : bit w j ≡ 1
-  lowest-one = rw e (lowest-bit 64 w fits some .1)
-
-  -- without it the word is less
-  pub lowest-less : (w′ : ℕ) → w′ ≡ w - 2 ^ j → w′ < w
-  lowest-less w′ r = omega (arith, bit-le w j lowest-one, pow-pos j)

@@ -1,7 +1,6 @@
 // The feed lines of a plan, by slot, then blower: slot, blower, tank, part.
 //
 // Bit j of word t says whether ration j + 1 is fed in slot t + 1. In a slot the lines go from set bit to set bit: rations in sheet order, blowers 1, 2, ..
-use crate::bits;
 use sheet::limits::LINE;
 ghost use mathlib.Core.Path.{_≡_};
 ghost use Prim.Native.Nat.{_+_, _≤_, _<_};

@@ -2,7 +2,6 @@
 //
 // The public modules are for the layer above.
 mod bill_line;
-mod bits;
 mod feed_lines;
 pub mod grid;
 pub mod held;

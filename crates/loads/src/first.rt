@@ -6,7 +6,6 @@ ghost use Rattle.common.specs.Bits.{bit};
 ghost use Rattle.loads.specs.First.{CanFeed, FedSlot, CanPass, FedPass, CanPlace, Fed, CanStart, Started};
 use crate::RATIONS;
 use grid::SLOTS;
-use grid::bits;
 use grid::search;
 
 // More than any slot can hold: all have room below it.

@@ -2,7 +2,6 @@
 ghost use Prim.Native.Nat.{_<_};
 ghost use Rattle.grid.specs.Grid.{Edge};
 ghost use Rattle.placing.specs.CellChoice.{IsPartner, CanAsk, Partner, CanReplace, Swapped};
-use grid::bits;
 use grid::search;
 
 // Whether a slot with these words feeds ration j, and one of the rations of `from` rests in it.

@@ -7,7 +7,6 @@ ghost use Rattle.grid.specs.Grid.{at};
 ghost use Rattle.placing.specs.CellChoice.{CanFeed, Decided, MayFeed, CanFind, FirstFed, CanAsk, CanReplace, Answered, Replaced, CanFeedBit, FedBit};
 use crate::candidates;
 use crate::exchange;
-use grid::bits;
 use grid::search;
 
 // The first slot in which ration j is fed; 96 where there is none.

@@ -1,18 +1,7 @@
 // Windows in words: a word for each slot, in which bit j says that the slot is in the window of ration j.
-ghost use mathlib.Core.Path.{_≡_};
-ghost use Prim.Native.Nat.{_+_, _^_, _<_};
-ghost use Rattle.common.specs.Bits.{bit};
 ghost use Rattle.sheet.specs.Limits.{maxSlots};
 ghost use Rattle.placing.specs.Rations.{demandsFrom, Rations};
 ghost use Rattle.placing.specs.Words.{CanMark, Marked, WindowWords, VolumeBytes};
-
-// w with the bit j set.
-fn add_bit(w: u64, j: u32) -> u64
-    requires { ⌜ (j < 64) × (bit w j ≡ 0) ⌝ }
-    ensures { λ r. ⌜ r ≡ w + 2 ^ j ⌝ }
-{
-    w + (1u64 << j)
-}
 
 // Sets bit j in the words of a window's slots.
 fn mark_window(windows: &mut [u64; 96], j: u32, release: usize, deadline: usize)
@@ -21,7 +10,7 @@ fn mark_window(windows: &mut [u64; 96], j: u32, release: usize, deadline: usize)
 {
     let mut t = release - 1;
     while t < deadline {
-        windows[t] = add_bit(windows[t], j);
+        windows[t] = bits::add_bit(windows[t], j);
         t += 1;
     }
 }

@@ -9,6 +9,7 @@ use native.Mathlib.Omega.{arith}
 use lib.Dec.{leb}
 use lib.ListN.{length, getD, replicate, length-append, length-map}
 use Rattle.common.specs.Lists.{sum, count, zipWith}
+use Rattle.common.specs.ListLaws.{count-le-length}
 use Rattle.sheet.specs.Limits.{width, maxSlots, maxBlowers, maxRations, maxTank}
 use Rattle.sheet.specs.Sheet.{Job, Sheet}
 use Rattle.sheet.specs.RangeLaws.{JobsInRange, ValuesInRange}
@@ -31,7 +32,7 @@ use Rattle.planning.specs.ReadLaws.{FitsLine, FitLines}
 use Rattle.planning.specs.SlotSetLaws.{length-membersFrom}
 use Rattle.planning.specs.StretchLineLaws.{in-stretchLines}
 use Rattle.listing.specs.Putting.{length-writeLines}
-use Rattle.listing.specs.LengthLaws.{length-stretchLines, count-le}
+use Rattle.listing.specs.LengthLaws.{length-stretchLines}
 use Rattle.planning.specs.FeedLineLaws.{partAt-le, length-feedLines, in-feedLines}
 use Rattle.planning.specs.DayLaws.{length-countsOf, countsOf-le, feedings-load, feedings-rows, tanks-feedings}
 
@@ -208,7 +209,7 @@ member-le t (b ∷ q) u i = go b i (member-le (suc t) q u)
 
 module _ (s : Sheet) (v : ValuesInRange s (length (s .jobs)) true) (q : Slots) (day : length q ≡ s .slots) where
   shown-le : count q ≤ maxSlots
-  shown-le = omega (arith, count-le q, v .head .slots .le)
+  shown-le = omega (arith, count-le-length q, v .head .slots .le)
 
   forced-most : forced (demandsOf s) q ≤ maxRations * maxSlots
   forced-most =

@@ -32,22 +32,22 @@ lowest-requires : tie.Need-lowest-requires
 lowest-requires c κs = search needs
 
 drop-bit-requires : tie.Need-drop-bit-requires
-drop-bit-requires c κs = (c .lowest .ensures .0, edge-ration _ _ (c .before .before .before .before .before .args .x) (c .before .before .before .before .before .args .y) _ (c .before .before .before .before .before .pre .grid) (c .lowest .ensures .1) .has)
+drop-bit-requires c κs = (c .lowest .ensures .below, edge-ration _ _ (c .before .before .before .before .before .args .x) (c .before .before .before .before .before .args .y) _ (c .before .before .before .before .before .pre .grid) (c .lowest .ensures .one) .has)
 
 add-bit-requires : tie.Need-add-bit-requires
 add-bit-requires c κs =
     let l = c .before .lowest .ensures in
-    (l .0, edge-ration _ _ (c .before .before .before .before .before .before .args .x) (c .before .before .before .before .before .before .args .y) _ (c .before .before .before .before .before .before .pre .grid) (l .1) .empty)
+    (l .below, edge-ration _ _ (c .before .before .before .before .before .before .args .x) (c .before .before .before .before .before .before .args .y) _ (c .before .before .before .before .before .before .pre .grid) (l .one) .empty)
 
 add-bit-requires-2 : tie.Need-add-bit-requires-2
 add-bit-requires-2 c κs =
     let l = c .before .before .lowest .ensures in
-    (l .0, edge-ration _ _ (c .before .before .before .before .before .before .before .args .x) (c .before .before .before .before .before .before .before .args .y) _ (c .before .before .before .before .before .before .before .pre .grid) (l .1) .lacks)
+    (l .below, edge-ration _ _ (c .before .before .before .before .before .before .before .args .x) (c .before .before .before .before .before .before .before .args .y) _ (c .before .before .before .before .before .before .before .pre .grid) (l .one) .lacks)
 
 drop-bit-requires-2 : tie.Need-drop-bit-requires-2
 drop-bit-requires-2 c κs =
     let l = c .before .before .before .lowest .ensures in
-    (l .0, edge-ration _ _ (c .before .before .before .before .before .before .before .before .args .x) (c .before .before .before .before .before .before .before .before .args .y) _ (c .before .before .before .before .before .before .before .before .pre .grid) (l .1) .wants)
+    (l .below, edge-ration _ _ (c .before .before .before .before .before .before .before .before .args .x) (c .before .before .before .before .before .before .before .before .args .y) _ (c .before .before .before .before .before .before .before .before .pre .grid) (l .one) .wants)
 
 mul-fed : tie.Need-mul-fed
 mul-fed c = search needs
@@ -75,7 +75,7 @@ element-write-rest-2 c = search needs
 
 returns : tie.Need-returns
 returns c =
-    ration-move (c .before .before .before .before .before .before .before .before .before .pre) (edge-ration _ _ _ _ _ (c .before .before .before .before .before .before .before .before .before .pre .grid) (c .before .before .before .before .lowest .ensures .1))
+    ration-move (c .before .before .before .before .before .before .before .before .before .pre) (edge-ration _ _ _ _ _ (c .before .before .before .before .before .before .before .before .before .pre .grid) (c .before .before .before .before .lowest .ensures .one))
     (c .before .before .before .drop-bit .ensures) (c .before .before .add-bit .ensures) (c .before .add-bit2 .ensures) (c .drop-bit2 .ensures)
 
 pub shift-spec : {M : Type 1} → statement M

@@ -1,6 +1,6 @@
 -- `listing::feed_lines::add_parts` meets its contract. The parts, with the bits that are left, are those asked for. Assumes nothing.
 use native.Mathlib.Omega.{arith}
-use Rattle.listing.specs.SetBits.{lowest-below, lowest-one, lowest-less}
+use Rattle.bits.specs.Lowest.{lowest-less}
 use Rattle.listing.specs.FeedSteps.{AddingParts, parts-begin, parts-few, parts-more, parts-end}
 use Rattle.listing.proofs.feed_lines.add_parts.Statement.{statement}
 use Rattle.listing.proofs.feed_lines.add_parts.Tie as tie
@@ -18,28 +18,28 @@ lowest-requires : tie.Need-lowest-requires Inv-loop μ-loop
 lowest-requires c κs = c .loop-test .taken
 
 cast-i : tie.Need-cast-i Inv-loop μ-loop
-cast-i c = omega (arith, lowest-below (c .before .before .loop .rest) (c .before .before .loop .inv .word-fits) (c .before .loop-test .taken) _ (c .lowest .ensures))
+cast-i c = omega (arith, c .lowest .ensures .below)
 
 mul-parts : tie.Need-mul-parts Inv-loop μ-loop
-mul-parts c = omega (arith, lowest-below (c .before .before .loop .rest) (c .before .before .loop .inv .word-fits) (c .before .loop-test .taken) _ (c .lowest .ensures))
+mul-parts c = omega (arith, c .lowest .ensures .below)
 
 element-copy-out-parts : tie.Need-element-copy-out-parts Inv-loop μ-loop
-element-copy-out-parts c = omega (arith, lowest-below (c .before .before .loop .rest) (c .before .before .loop .inv .word-fits) (c .before .loop-test .taken) _ (c .lowest .ensures))
+element-copy-out-parts c = omega (arith, c .lowest .ensures .below)
 
 add-parts : tie.Need-add-parts Inv-loop μ-loop
-add-parts c = omega (arith, parts-few (c .before .before .before .before .args .word) (c .before .before .before .before .args .parts .now) (c .before .before .before .before .pre) (c .before .before .before .loop .rest) (c .before .before .before .loop .parts) (c .before .before .before .loop .inv) (c .before .before .loop-test .taken) _ (c .before .lowest .ensures))
+add-parts c = omega (arith, parts-few (c .before .before .before .before .args .word) (c .before .before .before .before .args .parts .now) (c .before .before .before .before .pre) (c .before .before .before .loop .rest) (c .before .before .before .loop .parts) (c .before .before .before .loop .inv) _ (c .before .lowest .ensures))
 
 element-write-parts : tie.Need-element-write-parts Inv-loop μ-loop
-element-write-parts c = omega (arith, lowest-below (c .before .before .before .loop .rest) (c .before .before .before .loop .inv .word-fits) (c .before .before .loop-test .taken) _ (c .before .lowest .ensures))
+element-write-parts c = omega (arith, c .before .lowest .ensures .below)
 
 drop-bit-requires : tie.Need-drop-bit-requires Inv-loop μ-loop
-drop-bit-requires c κs = (lowest-below (c .before .before .before .loop .rest) (c .before .before .before .loop .inv .word-fits) (c .before .before .loop-test .taken) _ (c .before .lowest .ensures), lowest-one (c .before .before .before .loop .rest) (c .before .before .before .loop .inv .word-fits) (c .before .before .loop-test .taken) _ (c .before .lowest .ensures))
+drop-bit-requires c κs = (c .before .lowest .ensures .below, c .before .lowest .ensures .one)
 
 loop-less : tie.Need-loop-less Inv-loop μ-loop
-loop-less c = lowest-less (c .before .before .before .before .loop .rest) (c .before .before .before .before .loop .inv .word-fits) (c .before .before .before .loop-test .taken) _ (c .before .before .lowest .ensures) _ (c .drop-bit .ensures)
+loop-less c = lowest-less (c .before .before .lowest .ensures) (c .drop-bit .ensures)
 
 loop-again : tie.Need-loop-again Inv-loop μ-loop
-loop-again c = parts-more (c .before .before .before .before .before .args .word) (c .before .before .before .before .before .args .parts .now) (c .before .before .before .before .before .pre) (c .before .before .before .before .loop .rest) (c .before .before .before .before .loop .parts) (c .before .before .before .before .loop .inv) (c .before .before .before .loop-test .taken) _ (c .before .before .lowest .ensures) _ (c .drop-bit .ensures)
+loop-again c = parts-more (c .before .before .before .before .before .args .word) (c .before .before .before .before .before .args .parts .now) (c .before .before .before .before .before .pre) (c .before .before .before .before .loop .rest) (c .before .before .before .before .loop .parts) (c .before .before .before .before .loop .inv) _ (c .before .before .lowest .ensures) _ (c .drop-bit .ensures)
 
 returns : tie.Need-returns Inv-loop μ-loop
 returns c = parts-end (c .before .before .args .word) (c .before .before .args .parts .now) (c .before .before .pre) (c .before .loop .rest) (c .before .loop .parts) (c .before .loop .inv) (c .loop-test .left)

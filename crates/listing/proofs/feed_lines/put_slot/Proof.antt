@@ -1,6 +1,6 @@
 -- `listing::feed_lines::put_slot` meets its contract. The lines put, with those of the bits that are left, are all. Assumes nothing.
 use native.Mathlib.Omega.{arith}
-use Rattle.listing.specs.SetBits.{lowest-below, lowest-one, lowest-less}
+use Rattle.bits.specs.Lowest.{lowest-less}
 use Rattle.listing.specs.FeedSteps.{SlotPut, slot-begin, slot-few, feeding-can, slot-more, slot-end}
 use Rattle.listing.proofs.feed_lines.put_slot.Statement.{statement}
 use Rattle.listing.proofs.feed_lines.put_slot.Tie as tie
@@ -30,19 +30,19 @@ add-put-feeding-2 : tie.Need-add-put-feeding-2 Inv-loop μ-loop
 add-put-feeding-2 c = omega (arith, slot-few (c .before .before .before .before .before .args .slot) (c .before .before .before .before .before .args .word) (c .before .before .before .before .before .args .numbers .now) (c .before .before .before .before .before .args .parts .now) (c .before .before .before .before .before .args .at) (c .before .before .before .before .before .args .out .now) (c .before .before .before .before .before .pre) (c .before .before .before .loop .n) (c .before .before .before .loop .rest) (c .before .before .before .loop .out) (c .before .before .before .loop .inv))
 
 cast-put-feeding-2 : tie.Need-cast-put-feeding-2 Inv-loop μ-loop
-cast-put-feeding-2 c = omega (arith, lowest-below (c .before .before .before .loop .rest) (c .before .before .before .loop .inv .word-fits) (c .before .before .loop-test .taken) _ (c .before .lowest .ensures))
+cast-put-feeding-2 c = omega (arith, c .before .lowest .ensures .below)
 
 put-feeding-requires : tie.Need-put-feeding-requires Inv-loop μ-loop
 put-feeding-requires c κs = feeding-can (c .before .before .before .before .before .args .slot) (c .before .before .before .before .before .args .word) (c .before .before .before .before .before .args .numbers .now) (c .before .before .before .before .before .args .parts .now) (c .before .before .before .before .before .args .at) (c .before .before .before .before .before .args .out .now) (c .before .before .before .before .before .pre) (c .before .before .before .loop .n) (c .before .before .before .loop .rest) (c .before .before .before .loop .out) (c .before .before .before .loop .inv) (c .before .before .loop-test .taken) _ (c .before .lowest .ensures)
 
 drop-bit-requires : tie.Need-drop-bit-requires Inv-loop μ-loop
-drop-bit-requires c κs = (lowest-below (c .before .before .before .before .before .before .loop .rest) (c .before .before .before .before .before .before .loop .inv .word-fits) (c .before .before .before .before .before .loop-test .taken) _ (c .before .before .before .before .lowest .ensures), lowest-one (c .before .before .before .before .before .before .loop .rest) (c .before .before .before .before .before .before .loop .inv .word-fits) (c .before .before .before .before .before .loop-test .taken) _ (c .before .before .before .before .lowest .ensures))
+drop-bit-requires c κs = (c .before .before .before .before .lowest .ensures .below, c .before .before .before .before .lowest .ensures .one)
 
 add-n : tie.Need-add-n Inv-loop μ-loop
 add-n c = omega (arith, slot-few (c .before .before .before .before .before .before .before .before .before .args .slot) (c .before .before .before .before .before .before .before .before .before .args .word) (c .before .before .before .before .before .before .before .before .before .args .numbers .now) (c .before .before .before .before .before .before .before .before .before .args .parts .now) (c .before .before .before .before .before .before .before .before .before .args .at) (c .before .before .before .before .before .before .before .before .before .args .out .now) (c .before .before .before .before .before .before .before .before .before .pre) (c .before .before .before .before .before .before .before .loop .n) (c .before .before .before .before .before .before .before .loop .rest) (c .before .before .before .before .before .before .before .loop .out) (c .before .before .before .before .before .before .before .loop .inv))
 
 loop-less : tie.Need-loop-less Inv-loop μ-loop
-loop-less c = lowest-less (c .before .before .before .before .before .before .before .loop .rest) (c .before .before .before .before .before .before .before .loop .inv .word-fits) (c .before .before .before .before .before .before .loop-test .taken) _ (c .before .before .before .before .before .lowest .ensures) _ (c .drop-bit .ensures)
+loop-less c = lowest-less (c .before .before .before .before .before .lowest .ensures) (c .drop-bit .ensures)
 
 loop-again : tie.Need-loop-again Inv-loop μ-loop
 loop-again c = slot-more (c .before .before .before .before .before .before .before .before .before .args .slot) (c .before .before .before .before .before .before .before .before .before .args .word) (c .before .before .before .before .before .before .before .before .before .args .numbers .now) (c .before .before .before .before .before .before .before .before .before .args .parts .now) (c .before .before .before .before .before .before .before .before .before .args .at) (c .before .before .before .before .before .before .before .before .before .args .out .now) (c .before .before .before .before .before .before .before .before .before .pre) (c .before .before .before .before .before .before .before .loop .n) (c .before .before .before .before .before .before .before .loop .rest) (c .before .before .before .before .before .before .before .loop .out) (c .before .before .before .before .before .before .before .loop .inv) (c .before .before .before .before .before .before .loop-test .taken) _ (c .before .before .before .before .before .lowest .ensures) _ _ (c .drop-bit .ensures) (c .before .before .before .put-feeding .ensures)

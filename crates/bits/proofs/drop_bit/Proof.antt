@@ -1,9 +1,9 @@
--- `grid::bits::drop_bit` meets its contract. Assumes nothing.
+-- `bits::drop_bit` meets its contract. Assumes nothing.
 use borrow.Author.Needs.{needs}
 use native.Mathlib.Omega.{arith}
 use Rattle.common.specs.Bits.{bit-le, one-shl}
-use Rattle.grid.proofs.bits.drop_bit.Statement.{statement}
-use Rattle.grid.proofs.bits.drop_bit.Tie as tie
+use Rattle.bits.proofs.drop_bit.Statement.{statement}
+use Rattle.bits.proofs.drop_bit.Tie as tie
 
 shl-result : tie.Need-shl-result
 shl-result c = search needs

@@ -1,9 +1,9 @@
--- `placing::windows::add_bit` meets its contract. Assumes nothing.
-use Rattle.common.specs.Bits.{add-fits, one-shl}
-use native.Mathlib.Omega.{arith}
+-- `bits::add_bit` meets its contract. Assumes nothing.
 use borrow.Author.Needs.{needs}
-use Rattle.placing.proofs.windows.add_bit.Statement.{statement}
-use Rattle.placing.proofs.windows.add_bit.Tie as tie
+use native.Mathlib.Omega.{arith}
+use Rattle.common.specs.Bits.{add-fits, one-shl}
+use Rattle.bits.proofs.add_bit.Statement.{statement}
+use Rattle.bits.proofs.add_bit.Tie as tie
 
 shl-result : tie.Need-shl-result
 shl-result c = search needs

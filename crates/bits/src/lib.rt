@@ -1,14 +1,15 @@
-// A word's bits: the lowest, one more, one less.
+// A word's bits: the lowest, one more, one less, whether it has one. What a bit is stands in common/specs/Bits.antt.
 ghost use mathlib.Core.Path.{_≡_};
 ghost use mathlib.Core.Logic.{_≢_};
-ghost use Prim.Native.Nat.{ℕ, _+_, _-_, _^_, _≤_, _<_};
+ghost use Prim.Native.Nat.{_+_, _-_, _^_, _<_};
 ghost use lib.Dec.{eqb};
 ghost use Rattle.common.specs.Bits.{bit};
+ghost use Rattle.bits.specs.Lowest.{Lowest};
 
 // The index of the lowest bit of w.
 pub fn lowest(w: u64) -> u32
     requires { ⌜ w ≢ 0 ⌝ }
-    ensures { λ r. ⌜ (r < 64) × (bit w r ≡ 1) ⌝ }
+    ensures { λ r. ⌜ Lowest w r ⌝ }
 {
     u64::trailing_zeros(w)
 }

@@ -2,8 +2,8 @@
 use mathlib.Core.Path.{refl}
 use Rattle.common.specs.Bits.{bit}
 use borrow.Author.Needs.{needs}
-use Rattle.grid.proofs.bits.has_bit.Statement.{statement}
-use Rattle.grid.proofs.bits.has_bit.Tie as tie
+use Rattle.bits.proofs.has_bit.Statement.{statement}
+use Rattle.bits.proofs.has_bit.Tie as tie
 
 shr-result : tie.Need-shr-result
 shr-result c = search needs

@@ -1,0 +1,2 @@
+-- What `lowest` ensures, and what follows from it
+pub mod Lowest
