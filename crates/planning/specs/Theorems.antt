@@ -37,7 +37,7 @@ use Rattle.planning.specs.FitLaws.{energy-fits, starts-fit, fit-planLine
 use Rattle.planning.specs.WrittenLaws.{number-planned, number-held, writes-planned, writes-held, listing-written, listing-plan, listing-held, length-shownSet, shownLines, length-listing}
 use Rattle.planning.specs.NumberLaws.{number-read}
 use Rattle.planning.specs.OutputLaws.{length-output}
-use Rattle.planning.specs.DemandThree.{SoundPlacing}
+use Rattle.planning.specs.Demand.{SoundPlacing}
 
 -- Sizes, as document 01 and request 103 have them --------------------------------------------------------------
 
