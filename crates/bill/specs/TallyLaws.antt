@@ -9,7 +9,6 @@ use lib.Dec.{eqb, eqb·suc-zero}
 use lib.ListN.{length, replicate}
 use borrow.Author.Tests.{ne-eqb}
 use Rattle.common.specs.Lists.{range, sum}
-use Rattle.stretches.specs.FrontRunLaws.{stretch}
 use Rattle.energy.specs.Energy.{state, startAt}
 use Rattle.energy.specs.EnergyLaws.{startAt-le}
 use Rattle.energy.specs.UsageSteps.{startAt-after-on, startAt-goes-on}

@@ -1,7 +1,7 @@
 -- What the calls answer: on slots and starts of a blower, energy and starts of a day. Assumes nothing.
 use mathlib.Core.Path.{_≡_}
 use mathlib.Core.List.{List}
-use Prim.Native.Nat.{ℕ, _≤_, _<_}
+use Prim.Native.Nat.{ℕ, _≤_}
 use lib.ListN.{length}
 use Rattle.stretches.specs.Intervals.{Interval}
 use Rattle.energy.specs.Energy.{onSlots, startsOf, starts, energy}

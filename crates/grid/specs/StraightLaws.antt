@@ -3,10 +3,10 @@ use mathlib.Core.Path.{_≡_, refl, sym, ap}
 use mathlib.Core.Logic.{_≢_}
 use mathlib.Core.Bool.{true}
 use mathlib.Core.List.{List}
-use Prim.Native.Nat.{ℕ, _≤_, _<_}
+use Prim.Native.Nat.{ℕ, _<_}
 use native.Mathlib.Omega.{arith}
 use Rattle.common.specs.Bits.{bit, some-bit, both-of-and}
-use Rattle.grid.specs.Grid.{slots, at, load, Seen, Edge, Grid, Closed, Move, stay, more}
+use Rattle.grid.specs.Grid.{slots, at, load, Edge, Grid, Move, stay, more}
 use Rattle.grid.specs.MoveLaws.{fed-other, rest-other, move-closed}
 use Rattle.grid.specs.MarkLaws.{clash, seen-apart}
 use Rattle.grid.specs.Search.{CanShift, Straight, Won, CanPush, Pushed}

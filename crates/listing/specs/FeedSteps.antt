@@ -1,9 +1,8 @@
 -- How the feed lines are put: one feeding more, one slot more. Assumes nothing.
-use mathlib.Core.Path.{_≡_, refl, sym, ap, ap₂, _∙_}
+use mathlib.Core.Path.{_≡_, refl, sym, ap, _∙_}
 use mathlib.Core.Logic.{_≢_}
-use mathlib.Core.Bool.{Bool}
-use mathlib.Core.List.{List, [], _∷_, _++_, map}
-use Prim.Native.Nat.{ℕ, zero, suc, _+_, _-_, _*_, _^_, _≤_, _<_}
+use mathlib.Core.List.{List, [], _∷_, _++_}
+use Prim.Native.Nat.{ℕ, suc, _+_, _-_, _*_, _^_, _≤_, _<_}
 use native.Mathlib.Decide.{ℕ-discrete as decEq, decLt}
 use native.Mathlib.Numerals.{add-one}
 use native.Mathlib.Omega.{arith}
@@ -16,7 +15,6 @@ use Rattle.bits.specs.Lowest.{Lowest}
 use Rattle.sheet.specs.Limits.{lineBytes, fields, maxRations}
 use Rattle.sheet.specs.Sheet.{writeLine}
 use Rattle.sheet.specs.Parts.{putAt}
-use Rattle.placing.specs.Slots.{Slots}
 use Rattle.listing.specs.Lines.{Line, line, partAt, slotLines, feedLines}
 use Rattle.listing.specs.Inputs.{tankAt, tanksOf, rowOf, placingOf}
 use Rattle.listing.specs.Putting.{Put, Putting, Room, putting-begin, putting-more, putting-room, putting-end, put-one}

@@ -1,12 +1,12 @@
 -- How the placing buffer is filled: zeros, then one ration more. Assumes nothing.
 use mathlib.Core.Path.{_≡_, refl, sym, ap, ap₂, _∙_}
-use mathlib.Core.Bool.{Bool, true, false, cond}
+use mathlib.Core.Bool.{cond}
 use mathlib.Core.List.{List, [], _∷_, _++_, map, map-append, append-assoc, append-nil}
 use Prim.Native.Nat.{ℕ, zero, suc, _+_, _-_, _*_, _/_, _%_, _^_, _≤_, _<_}
 use native.Mathlib.Numerals.{add-one}
 use native.Mathlib.Omega.{arith}
 use lib.Dec.{eqb}
-use lib.ListN.{length, getD, take, drop, set, replicate, length-append, length-map, length-take, length-drop, length-replicate, replicate-append-replicate}
+use lib.ListN.{length, getD, take, drop, set, replicate, length-append, length-map, length-drop, length-replicate, replicate-append-replicate}
 use lib.Seq.{take-suc, take-at, drop-at, drop-append-add, drop-append-le, length-take-le}
 use borrow.Author.Fill.{fill-more}
 use Rattle.common.specs.Lists.{range, flatMap}
@@ -15,8 +15,6 @@ use Rattle.sheet.specs.Limits.{maxSlots, maxRations}
 use Rattle.sheet.specs.Calls.{padded, over}
 use Rattle.sheet.specs.Parts.{putAt}
 use Rattle.sheet.specs.PutLaws.{set-putAt, putAt-append, length-putAt}
-use Rattle.placing.specs.Slots.{Slots}
-use Rattle.placing.specs.Schedules.{Schedule}
 use Rattle.listing.specs.Sizes.{gridBytes}
 use Rattle.listing.specs.Text.{bytesOf, rowBytes, gridOf}
 use Rattle.listing.specs.Inputs.{rowOf, placingOf}

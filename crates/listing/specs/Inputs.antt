@@ -1,10 +1,8 @@
 -- What the arrays given to the calls stand for: tanks in flat numbers, the placing in words, a set of slots in marks. Assumes nothing.
-use mathlib.Core.Path.{_≡_}
-use mathlib.Core.Bool.{Bool}
 use mathlib.Core.List.{List, map}
-use Prim.Native.Nat.{ℕ, _*_, _^_, _≤_, _<_}
+use Prim.Native.Nat.{ℕ, _*_}
 use lib.Dec.{eqb, ltb}
-use lib.ListN.{length, getD, take}
+use lib.ListN.{getD, take}
 use Rattle.common.specs.Lists.{range}
 use Rattle.common.specs.Bits.{bit}
 use Rattle.sheet.specs.Limits.{fields}

@@ -14,7 +14,7 @@ use Rattle.energy.specs.EnergyLaws.{length-intervals}
 use Rattle.listing.specs.Lines.{Line, stretchLine, blowerLines, stretchLines, partAt, slotLines, feedLines}
 use Rattle.listing.specs.Inputs.{tanksOf, rowOf, placingOf}
 use Rattle.listing.specs.SetBits.{setBits}
-use Rattle.listing.specs.FeedLaws.{wordLines, length-wordLines, slotLines-word}
+use Rattle.listing.specs.FeedLaws.{length-wordLines, slotLines-word}
 
 -- as many lines for each of n numbers as c at most
 pub length-flatMap-range : (f : ℕ → List Line) (c a n : ℕ) → ((k : ℕ) → a ≤ k → k < a + n → length (f k) ≤ c) → length (flatMap f (range a n)) ≤ n * c

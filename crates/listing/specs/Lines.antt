@@ -1,6 +1,6 @@
 -- The lines of a plan's listing and of a held sheet's. Definitions only. Assumes nothing.
 -- What is listed is given as plain values, however it was found.
-use mathlib.Core.Bool.{Bool, true, false, cond}
+use mathlib.Core.Bool.{cond}
 use mathlib.Core.List.{List, [], _∷_, _++_, map}
 use Prim.Native.Nat.{ℕ, suc}
 use lib.ListN.{length, take}

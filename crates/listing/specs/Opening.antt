@@ -3,8 +3,8 @@ use mathlib.Core.Path.{_≡_, refl, sym, ap, _∙_}
 use mathlib.Core.List.{List, [], _∷_, _++_}
 use Prim.Native.Nat.{ℕ, _+_, _*_, _≤_, _<_}
 use native.Mathlib.Omega.{arith}
-use lib.ListN.{length, set, take, drop, length-append}
-use Rattle.sheet.specs.Limits.{lineBytes, newline}
+use lib.ListN.{length, set, drop, length-append}
+use Rattle.sheet.specs.Limits.{lineBytes}
 use Rattle.sheet.specs.Sheet.{writeLine}
 use Rattle.sheet.specs.LineLaws.{length-writeLine}
 use Rattle.sheet.specs.Calls.{over}

@@ -1,7 +1,7 @@
 -- How a plan's listing is put: its word, the stretch lines, the feed lines, the bill, then the head line. Assumes nothing.
 use mathlib.Core.Path.{_≡_, refl, sym, ap, _∙_}
 use mathlib.Core.List.{List, [], _∷_, _++_, append-assoc, append-nil}
-use Prim.Native.Nat.{ℕ, suc, _+_, _*_, _^_, min, _≤_, _<_}
+use Prim.Native.Nat.{ℕ, _+_, _*_, _^_, min, _≤_, _<_}
 use native.Mathlib.Nat.{mul-le-mul}
 use native.Mathlib.Omega.{arith}
 use lib.Count.{ones}
@@ -16,7 +16,7 @@ use Rattle.energy.specs.declared.DayUse.{DayUse}
 use Rattle.bill.specs.declared.Amount.{Amount}
 use Rattle.bill.specs.Bill.{charge, amountOf}
 use Rattle.listing.specs.Sizes.{wordBytes, planBytes}
-use Rattle.listing.specs.Lines.{Line, line, Plan, stretchLines, feedLines, billLine, planLines}
+use Rattle.listing.specs.Lines.{Line, Plan, stretchLines, feedLines, billLine, planLines}
 use Rattle.listing.specs.Text.{writeLines, planWord, planText}
 use Rattle.listing.specs.Inputs.{tanksOf, placingOf}
 use Rattle.listing.specs.Putting.{Put, length-writeLines, writeLines-append}

@@ -1,17 +1,16 @@
 -- Lines put into a buffer, some after others: what is still to be put. Assumes nothing.
 use mathlib.Core.Path.{_≡_, refl, sym, ap, _∙_}
 use mathlib.Core.List.{List, [], _∷_, _++_, append-assoc, append-nil}
-use Prim.Native.Nat.{ℕ, zero, suc, _+_, _*_, _≤_}
+use Prim.Native.Nat.{ℕ, _+_, _*_, _≤_}
 use native.Mathlib.Omega.{arith}
-use lib.ListN.{length, take, drop, length-append, length-take, take-append-drop}
-use lib.Seq.{take-at, drop-at, take-append-le, take-take, length-take-le}
-use Rattle.common.specs.Lists.{flatMap}
+use lib.ListN.{length, take, drop, length-append, take-append-drop}
+use lib.Seq.{drop-at, take-append-le, take-take, length-take-le}
 use Rattle.sheet.specs.Limits.{lineBytes}
 use Rattle.sheet.specs.Sheet.{writeLine}
 use Rattle.sheet.specs.LineLaws.{length-writeLine}
 use Rattle.sheet.specs.Parts.{putAt}
 use Rattle.sheet.specs.PutLaws.{putAt-append, length-putAt}
-use Rattle.listing.specs.Lines.{Line, line}
+use Rattle.listing.specs.Lines.{Line}
 use Rattle.listing.specs.Text.{writeLines}
 
 -- Bytes --------------------------------------------------------------------------

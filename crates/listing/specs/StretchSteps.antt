@@ -1,8 +1,8 @@
 -- How the stretch lines are put: one stretch more, one blower more. Assumes nothing.
-use mathlib.Core.Path.{_≡_, refl, sym, ap, _∙_}
+use mathlib.Core.Path.{_≡_, ap, _∙_}
 use mathlib.Core.Bool.{Bool}
 use mathlib.Core.List.{List, [], _∷_, _++_, map}
-use Prim.Native.Nat.{ℕ, zero, suc, _+_, _-_, _*_, _≤_, _<_}
+use Prim.Native.Nat.{ℕ, suc, _+_, _-_, _*_, _≤_, _<_}
 use native.Mathlib.Numerals.{add-one}
 use native.Mathlib.Omega.{arith}
 use lib.Dec.{leb}
@@ -16,7 +16,7 @@ use Rattle.stretches.specs.Intervals.{Interval, intervals}
 use Rattle.stretches.specs.FrontRunLaws.{stretch, stretchesFrom, stretchesFrom-some, stretchesFrom-begin, stretchesFrom-end, EndsAt}
 use Rattle.energy.specs.Energy.{state}
 use Rattle.energy.specs.Usage.{Day}
-use Rattle.listing.specs.Lines.{Line, line, stretchLine, blowerLines, stretchLines}
+use Rattle.listing.specs.Lines.{stretchLine, blowerLines, stretchLines}
 use Rattle.listing.specs.Putting.{Put, Putting, Room, putting-begin, putting-more, putting-room, putting-end, put-one}
 
 -- One stretch ----------------------------------------------------------------------

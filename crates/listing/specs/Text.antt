@@ -1,5 +1,5 @@
 -- The text of a listing, and the bytes of the placing buffer. Definitions only. Assumes nothing.
-use mathlib.Core.Bool.{Bool, cond}
+use mathlib.Core.Bool.{cond}
 use mathlib.Core.List.{List, [], _∷_, _++_, map}
 use Prim.Native.Nat.{ℕ}
 use Rattle.common.specs.Lists.{flatMap}

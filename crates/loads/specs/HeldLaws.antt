@@ -9,7 +9,7 @@ use lib.Bits.{bitAnd}
 use Rattle.loads.specs.Theory.{one, count, Placing, no-placing, certificate, no-edge-closed, reach-closed, Critical, closed-critical}
 use Rattle.loads.specs.Theory as theory
 use Rattle.common.specs.Bits.{bit, some-bit, both-of-and, and-of-both}
-use Rattle.grid.specs.Grid.{slots, at, Edge, Closed, Reach, here, step}
+use Rattle.grid.specs.Grid.{at, Edge, Closed, Reach, here, step}
 use Rattle.loads.specs.Relief.{Over, Held}
 use Rattle.loads.specs.Meaning.{bitAt, seenAt, Day, Places}
 use Rattle.loads.specs.MeaningLaws.{bit-bitAt, bitAt-bit, one-bitAt, one-true, seen-seenAt, seenAt-seen, count-load, bit-slot, bit-ration, loaded-slot, day-exchange, places-placing}

@@ -9,9 +9,8 @@ use native.Mathlib.Omega.{arith}
 use lib.ListN.{length, set, length-set}
 use lib.Seq.{getD-set-same, getD-set-other}
 use Rattle.loads.specs.Theory.{count, Placing, placing-rest, count-rest}
-use Rattle.grid.specs.Grid.{at, load}
+use Rattle.grid.specs.Grid.{at}
 use Rattle.loads.specs.Relief.{Within, width, Raised}
-use Rattle.loads.specs.First.{rations}
 use Rattle.loads.specs.Meaning.{Places, State, put}
 use Rattle.loads.specs.MeaningLaws.{count-width, places-moved, places-exchange, day-exchange}
 use Rattle.loads.specs.HeldLaws.{held-none}

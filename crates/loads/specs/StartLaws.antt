@@ -6,7 +6,7 @@ use mathlib.Core.List.{List}
 use Prim.Native.Nat.{ℕ, _≤_, _<_}
 use native.Mathlib.Decide.{decLt}
 use native.Mathlib.Omega.{arith}
-use lib.ListN.{length, set}
+use lib.ListN.{length}
 use lib.Pow.{pow-mono}
 use Rattle.loads.specs.Theory.{sum-cong, size, count, Placing, Critical}
 use Rattle.common.specs.Bits.{bit, bit-of-zero}

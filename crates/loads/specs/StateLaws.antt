@@ -13,7 +13,6 @@ use lib.Seq.{getD-set-same, getD-set-other}
 use Rattle.loads.specs.Theory.{count, Placing}
 use Rattle.grid.specs.Grid.{at, load, Rearranged}
 use Rattle.loads.specs.Relief.{Within, CanLower, Lowered}
-use Rattle.loads.specs.First.{rations}
 use Rattle.loads.specs.Meaning.{bitAt, Day, Places, State, put}
 use Rattle.loads.specs.MeaningLaws.{count-load, count-width, loaded-slot, places-placing, places-moved, day-exchange}
 use Rattle.loads.specs.HeldLaws.{held-none}

@@ -5,7 +5,7 @@ use mathlib.Core.Bool.{Bool, true, false}
 use mathlib.Core.List.{List}
 use Prim.Native.Nat.{ℕ, _≤_, _<_, min, max}
 use native.Mathlib.Omega.{arith}
-use lib.ListN.{length, set}
+use lib.ListN.{length}
 use Rattle.grid.specs.Grid.{slots, at, load, Seen, Closed, Reach, here, step, Rearranged}
 use Rattle.grid.specs.MoveLaws.{slot-cases, ind-same, ind-other, path-rearranged, path-load, rearranged-none, rearranged-trans}
 use Rattle.grid.specs.Search.{Won, Lost, CanPush, Pushed}

@@ -2,26 +2,24 @@
 use mathlib.Core.Path.{_≡_, refl, sym, ap, _∙_}
 use mathlib.Core.Bool.{Bool, true, false}
 use mathlib.Core.List.{List}
-use Prim.Native.Nat.{ℕ, _+_, _≤_, _<_}
+use Prim.Native.Nat.{ℕ, _<_}
 use native.Mathlib.Omega.{arith}
 use lib.ListN.{length, replicate, length-replicate, getD-replicate}
-use Rattle.grid.specs.Grid.{at, load}
 use Rattle.loads.specs.Relief.{Relieved, Widths}
 use Rattle.loads.specs.First.{Started}
-use Rattle.loads.specs.Meaning.{Places, bitAt, seenAt}
+use Rattle.loads.specs.Meaning.{Places, seenAt}
 use Rattle.loads.specs.MeaningLaws.{count-load, places-placing, places-moved}
 use Rattle.loads.specs.HeldLaws.{words-closed}
 use Rattle.loads.specs.StartLaws.{relieved-state, relieved-critical, relieved-none, started-places}
 use Rattle.common.specs.Tests.{false-of-not-true}
 use Rattle.theory.specs.SumsOver.{sumOn, on-cong}
-use Rattle.theory.specs.Placing.{count}
 use Rattle.theory.specs.Critical.{Critical}
 use Rattle.placing.specs.Schedules.{Demand, volumeOf, feasible}
 use Rattle.placing.specs.Shortfall.{forced, criticalSet}
 use Rattle.placing.specs.FeasibleLaws.{feasible-sound}
 use Rattle.placing.specs.CriticalLaws.{critical-as}
 use Rattle.placing.specs.Tabulate.{tab}
-use Rattle.placing.specs.AsFunctions.{free, bound, sound-bounded}
+use Rattle.placing.specs.AsFunctions.{free, sound-bounded}
 use Rattle.placing.specs.Certificates.{closed-forced}
 use Rattle.placing.specs.Represents.{Represents, DemandWords, HighWords, Begun, marksOf, markedLoads}
 use Rattle.placing.specs.StepLaws.{state-bounds, represents-feasible}

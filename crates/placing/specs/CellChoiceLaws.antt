@@ -1,25 +1,24 @@
 -- The answers of `feed`: each of its returns decides the cell as `Decided` says. Assumes nothing.
-use mathlib.Core.Path.{_≡_, refl, sym, ap, _∙_, subst}
+use mathlib.Core.Path.{_≡_, refl, sym, ap, _∙_}
 use mathlib.Core.Logic.{_≢_}
 use mathlib.Core.Bool.{Bool, true, false, true≢false, false≢true}
 use mathlib.Core.List.{List}
-use Prim.Native.Nat.{ℕ, suc, _+_, _-_, _^_, _≤_, _<_}
+use Prim.Native.Nat.{ℕ, _+_, _-_, _^_, _≤_, _<_}
 use native.Mathlib.Omega.{arith}
-use lib.ListN.{length, set, length-set}
+use lib.ListN.{set, length-set}
 use lib.Seq.{getD-set-same, getD-set-other}
 use Rattle.common.specs.Tests.{false-of-not-true}
-use Rattle.theory.specs.Sums.{sum, sum-cong, sum-zero}
+use Rattle.theory.specs.Sums.{sum-cong, sum-zero}
 use Rattle.theory.specs.SumsOver.{one}
 use Rattle.theory.specs.Placing.{size, count, Placing}
 use Rattle.theory.specs.Move.{upd, upd-same, upd-row, upd-col, size-upd, size-upd-other, count-upd, count-upd-other}
 use Rattle.common.specs.Bits.{bit, bit-none}
-use Rattle.grid.specs.Grid.{slots, at, load, volume, Grid, ind}
+use Rattle.grid.specs.Grid.{slots, at, load, volume, ind}
 use Rattle.grid.specs.MoveLaws.{ind-same, ind-other}
 use Rattle.loads.specs.ExchangeLaws.{grid-exchange}
-use Rattle.loads.specs.Meaning.{Day, Places}
 use Rattle.loads.specs.MeaningLaws.{one-true}
 use Rattle.loads.specs.StateLaws.{put-same, put-other, at-or-other}
-use Rattle.placing.specs.CellChoice.{oneLess, Exactly, Feedable, CanFeed, Decided, FirstFed, CanAsk, Partner, CanReplace, Answered}
+use Rattle.placing.specs.CellChoice.{oneLess, Exactly, CanFeed, Decided, FirstFed, CanAsk, Partner, CanReplace, Answered}
 use Rattle.placing.specs.ExactlyLaws.{exactly-windows}
 use Rattle.placing.specs.CellWordLaws.{cell-cases, less-below, out-grid, out-load, out-volume, out-rest, out-fed}
 

@@ -1,11 +1,10 @@
 -- The word of the rations that may be fed in a slot: how it is made, what keeps it true, and why no other ration can be fed there. Assumes nothing.
 use mathlib.Core.Path.{_≡_, refl, sym, ap, _∙_}
 use mathlib.Core.Logic.{_≢_, ⊎-elim}
-use mathlib.Core.Bool.{Bool, true, false, false≢true}
+use mathlib.Core.Bool.{Bool, false, false≢true}
 use mathlib.Core.List.{List}
 use Prim.Native.Nat.{ℕ, _+_, _-_, _^_, _≤_, _<_}
 use native.Mathlib.Nat.{not-suc-le-zero}
-use native.Mathlib.Numerals.{add-one}
 use native.Mathlib.Omega.{arith}
 use borrow.Author.Count.{below-more}
 use lib.Bits.{bitAnd}
@@ -14,11 +13,11 @@ use lib.Seq.{getD-set-other}
 use Rattle.theory.specs.Sums.{sum-pos}
 use Rattle.theory.specs.Placing.{count, Placing}
 use Rattle.common.specs.Bits.{bit, bit-lt, some-bit, both-of-and, and-of-both}
-use Rattle.grid.specs.Grid.{slots, at, load, volume, Seen, Edge, Closed, Grid, Move, ind}
+use Rattle.grid.specs.Grid.{slots, at, volume, Seen, Edge, Closed, Grid, Move}
 use Rattle.grid.specs.Search.{CanShift}
 use Rattle.grid.specs.MoveLaws.{ind-same, ind-other, seen-slot, move-fed, move-inside}
 use Rattle.grid.specs.StraightLaws.{move-won}
-use Rattle.placing.specs.CellChoice.{oneLess, Exactly, CanFeed, CanAsk, CanReplace, Answered, MayFeed, AddMarked, FedMarked, Swapped, Around, Replaced}
+use Rattle.placing.specs.CellChoice.{oneLess, Exactly, CanFeed, CanAsk, CanReplace, Answered, MayFeed, AddMarked, FedMarked, Swapped, Around}
 use Rattle.placing.specs.CellWordLaws.{at-zeros, out-bit-le}
 use Rattle.placing.specs.CellSearchLaws.{grid₁, load₁, old-rests, more-rests, apart, around-all, won-answer, closed-none}
 

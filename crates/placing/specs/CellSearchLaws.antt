@@ -15,14 +15,13 @@ use Rattle.theory.specs.Placing.{count, Placing}
 use Rattle.theory.specs.Volumes.{no-placing}
 use Rattle.theory.specs.Closed.{certificate}
 use Rattle.common.specs.Bits.{bit, bit-lt, some-bit, both-of-and, and-of-both}
-use Rattle.grid.specs.Grid.{slots, at, load, Seen, Edge, Closed, Grid, ind}
-use Rattle.loads.specs.First.{rations}
+use Rattle.grid.specs.Grid.{slots, at, load, Seen, Closed, Grid, ind}
 use Rattle.grid.specs.Search.{Won, Lost, CanPush, Pushed}
 use Rattle.grid.specs.MoveLaws.{slot-cases, ind-same, ind-other, add-bits, edge-below, path-rearranged, path-load}
-use Rattle.loads.specs.Meaning.{seenAt, Places, put}
+use Rattle.loads.specs.Meaning.{seenAt, Places}
 use Rattle.loads.specs.MeaningLaws.{seen-seenAt, seenAt-seen, count-load, loaded-slot, places-placing, places-moved}
 use Rattle.loads.specs.HeldLaws.{words-closed}
-use Rattle.loads.specs.StateLaws.{put-same, put-other, at-or-other}
+use Rattle.loads.specs.StateLaws.{at-or-other}
 use Rattle.placing.specs.CellChoice.{oneLess, Exactly, Feedable, CanReplace, Answered, Around, Replaced}
 use Rattle.placing.specs.CellWordLaws.{at-zeros, less-below, back-grid, back-load, back-volume, back-places}
 

@@ -1,7 +1,7 @@
 -- One cell taken out of the words, or moved from the fed to the resting: what becomes of windows, volumes and loads. Assumes nothing.
 use mathlib.Core.Path.{_≡_, refl, sym, ap, _∙_, subst}
 use mathlib.Core.Logic.{_≢_}
-use mathlib.Core.Bool.{Bool, true, false}
+use mathlib.Core.Bool.{Bool, false}
 use mathlib.Core.List.{List}
 use Prim.Native.Nat.{ℕ, zero, suc, _+_, _-_, _^_, _≤_, _<_}
 use native.Mathlib.Decide.{ℕ-discrete}
@@ -11,13 +11,13 @@ use lib.ListN.{length, set, replicate, length-set}
 use lib.Seq.{getD-set-same, getD-set-other}
 use Rattle.theory.specs.SumsOver.{one}
 use Rattle.theory.specs.Move.{upd, upd-same, upd-row, upd-col}
-use Rattle.common.specs.Bits.{bit, bit-le, ones-sub}
+use Rattle.common.specs.Bits.{bit, ones-sub}
 use Rattle.grid.specs.Grid.{slots, at, load, volume, Grid, ind}
-use Rattle.loads.specs.First.{rations, CanFeed, Fed}
+use Rattle.loads.specs.First.{rations, Fed}
 use Rattle.loads.specs.FirstLaws.{fed-one}
 use Rattle.grid.specs.MoveLaws.{ind-same, ind-other, volume-set, sub-bits}
 use Rattle.loads.specs.ExchangeLaws.{grid-exchange}
-use Rattle.loads.specs.Meaning.{Day, Places, put}
+use Rattle.loads.specs.Meaning.{Day, Places}
 use Rattle.loads.specs.MeaningLaws.{day-exchange}
 use Rattle.loads.specs.StateLaws.{put-same, put-other, at-or-other}
 use Rattle.placing.specs.CellChoice.{oneLess}

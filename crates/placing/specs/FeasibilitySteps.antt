@@ -2,20 +2,17 @@
 use mathlib.Core.Path.{_≡_, refl, sym, ap, _∙_, subst}
 use mathlib.Core.Bool.{Bool, true, false}
 use mathlib.Core.List.{List, [], _∷_, _++_, append-nil, append-assoc}
-use Prim.Native.Nat.{ℕ, zero, suc, _+_, _-_, _*_, _≤_, _<_, min, max}
+use Prim.Native.Nat.{ℕ, suc, _+_, _-_, _≤_, _<_, max}
 use native.Mathlib.Decide.{decLt}
 use native.Mathlib.Numerals.{add-one}
 use native.Mathlib.Omega.{arith}
 use lib.ListN.{length, getD, take, set, replicate, length-append, length-take, length-replicate, getD-replicate, List·getD-append}
-use lib.Seq.{length-take-le, getD-take, take-suc, set-append-seam, getD-append-add, take-length}
-use Rattle.sheet.specs.Limits.{fields, maxSlots, maxRations}
-use Rattle.common.specs.Lists.{count}
+use lib.Seq.{length-take-le, getD-take, take-suc, set-append-seam, getD-append-add}
+use Rattle.sheet.specs.Limits.{maxSlots}
 use Rattle.theory.specs.Placing.{size}
-use Rattle.loads.specs.Meaning.{Given}
-use Rattle.loads.specs.First.{CanStart}
 use Rattle.loads.specs.StartLaws.{given-start}
-use Rattle.placing.specs.Slots.{window, has}
-use Rattle.placing.specs.Schedules.{Demand, Windows, noDemand, windowOf, volumeOf, AtMost, feasible}
+use Rattle.placing.specs.Slots.{window}
+use Rattle.placing.specs.Schedules.{Demand, Windows, windowOf, volumeOf, AtMost, feasible}
 use Rattle.placing.specs.Theorems.{infeasible-tighter}
 use Rattle.placing.specs.AsFunctions.{free, bound}
 use Rattle.placing.specs.Tabulate.{count-size}

@@ -1,8 +1,7 @@
 -- The steps of filling the highs of a day and of counting the feedings in marked slots. Assumes nothing.
-use mathlib.Core.Path.{_≡_, refl, sym, ap, _∙_}
-use mathlib.Core.Bool.{Bool, true, false}
+use mathlib.Core.Path.{_≡_, sym, ap, _∙_}
 use mathlib.Core.List.{List}
-use Prim.Native.Nat.{ℕ, _+_, _*_, _≤_, _<_}
+use Prim.Native.Nat.{ℕ, _+_, _≤_, _<_}
 use native.Mathlib.Omega.{arith}
 use lib.Count.{ones}
 use lib.Dec.{ltb}
@@ -14,7 +13,6 @@ use Rattle.theory.specs.Sums.{sum-none, sum-next}
 use Rattle.theory.specs.SumsOver.{pick, sumOn}
 use Rattle.grid.specs.Grid.{at, load}
 use Rattle.loads.specs.Meaning.{seenAt}
-use Rattle.placing.specs.AsFunctions.{bound}
 use Rattle.placing.specs.FillLaws.{FilledTo, filled-end, getD-padded}
 use Rattle.placing.specs.Represents.{HighWords, markedLoads}
 use Rattle.sheet.specs.ReadSteps.{length-padded}

@@ -3,7 +3,7 @@
 use mathlib.Core.Path.{_≡_}
 use mathlib.Core.Bool.{Bool, true, false}
 use mathlib.Core.List.{List}
-use Prim.Native.Nat.{ℕ, _+_, _-_, _^_, _≤_, _<_, min, max}
+use Prim.Native.Nat.{ℕ, _-_, _<_, min, max}
 use lib.Dec.{ltb}
 use lib.ListN.{length, getD, set, replicate}
 use Rattle.grid.specs.Grid.{at, load}
@@ -11,7 +11,6 @@ use Rattle.loads.specs.Relief.{CanLower}
 use Rattle.loads.specs.Meaning.{State, Given, seenAt}
 use Rattle.loads.specs.First.{CanStart}
 use Rattle.theory.specs.SumsOver.{sumOn}
-use Rattle.placing.specs.Slots.{Slots}
 use Rattle.placing.specs.Schedules.{Demand, Windows, volumeOf, feasible}
 use Rattle.placing.specs.Shortfall.{forced, criticalSet}
 use Rattle.placing.specs.Tabulate.{tab}

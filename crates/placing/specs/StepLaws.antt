@@ -2,14 +2,14 @@
 use mathlib.Core.Path.{_≡_, refl, sym, ap, _∙_, subst}
 use mathlib.Core.Bool.{Bool, true, false, cond, true≢false, false≢true}
 use mathlib.Core.List.{List}
-use Prim.Native.Nat.{ℕ, suc, _+_, _-_, _≤_, _<_, min, max}
+use Prim.Native.Nat.{ℕ, _+_, _-_, _≤_, _<_, min, max}
 use native.Mathlib.Decide.{ℕ-discrete}
 use native.Mathlib.Omega.{arith}
 use lib.Dec.{eqb}
 use lib.ListN.{length, getD, set, length-set}
 use lib.Seq.{getD-set-same, getD-set-other, set-getD}
 use borrow.Author.Tests.{eq-eqb, ne-eqb}
-use Rattle.grid.specs.Grid.{at, load}
+use Rattle.grid.specs.Grid.{at}
 use Rattle.loads.specs.Relief.{width, Lowered, Raised}
 use Rattle.loads.specs.Meaning.{State, put}
 use Rattle.loads.specs.MeaningLaws.{count-width}
@@ -17,8 +17,8 @@ use Rattle.loads.specs.StateLaws.{state-placing, state-within, state-lower, sta
 use Rattle.loads.specs.RaiseLaws.{raised-state, raised-kept, raised-none}
 use Rattle.common.specs.Tests.{false-of-not-true}
 use Rattle.placing.specs.Schedules.{Demand, Windows, Sound, load as loadOf, feasible}
-use Rattle.placing.specs.FeasibleLaws.{feasible-sound, sound-feasible}
-use Rattle.placing.specs.AsFunctions.{free, bound, sound-bounded}
+use Rattle.placing.specs.FeasibleLaws.{feasible-sound}
+use Rattle.placing.specs.AsFunctions.{bound, sound-bounded}
 use Rattle.placing.specs.Certificates.{places-feasible}
 use Rattle.placing.specs.Represents.{Represents, Ready, lowered, raised, Idled, Busied}
 

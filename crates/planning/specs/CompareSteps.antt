@@ -2,7 +2,7 @@
 use mathlib.Core.Path.{_≡_, refl, sym, ap, ap₂, _∙_}
 use mathlib.Core.Bool.{Bool, true, false, not, true≢false}
 use mathlib.Core.List.{List, [], _∷_, _++_}
-use Prim.Native.Nat.{ℕ, zero, suc, _≤_, _<_, _+_}
+use Prim.Native.Nat.{ℕ, _≤_, _<_, _+_}
 use native.Mathlib.Omega.{arith}
 use lib.Dec.{eqb}
 use lib.ListN.{length, getD, take}
@@ -17,7 +17,6 @@ use Rattle.sheet.specs.Checks.{fault, firstRefusal, faults}
 use Rattle.sheet.specs.Calls.{readingOf, accepted}
 use Rattle.placing.specs.ReadLaws.{refused-before, accepted-before}
 use Rattle.stretches.specs.declared.Day.{Day}
-use Rattle.planning.specs.declared.Compared.{Compared}
 use Rattle.planning.specs.DayLaws.{length-countsOf}
 use Rattle.planning.specs.Planning.{canBePlanned, heldFaults, countsOf, compareRefusal, sameDay, comparedOf}
 use Rattle.planning.specs.SheetDays.{SheetDay, held-is, can, counts-are}

@@ -1,26 +1,25 @@
 -- What the arrays given to the calls stand for, by place; and words whose bits are those of fewer rations stand for the plan of these alone. Assumes nothing.
 use mathlib.Core.Path.{_≡_, refl, sym, ap, ap₂, _∙_}
-use mathlib.Core.Bool.{Bool, false}
+use mathlib.Core.Bool.{false}
 use mathlib.Core.List.{List, [], _∷_, _++_, map}
 use Prim.Native.Nat.{ℕ, zero, suc, _+_, _-_, _*_, _^_, _≤_, _<_}
 use native.Mathlib.Omega.{arith}
 use lib.Dec.{eqb, ltb}
-use lib.ListN.{length, getD, take, length-map, length-take, replicate, List·getD-append}
+use lib.ListN.{length, getD, take, length-map, length-take, replicate}
 use lib.Seq.{getD-take, ext-getD}
 use Rattle.common.specs.Lists.{range, flatMap, zipWith}
 use Rattle.common.specs.Bits.{bit}
 use Rattle.sheet.specs.Limits.{fields, maxRations}
 use Rattle.sheet.specs.Sheet.{Job, numbersOf}
 use Rattle.sheet.specs.Calls.{padded}
-use Rattle.sheet.specs.NumbersLaws.{length-numbersOf}
 use Rattle.placing.specs.Slots.{Slots, has}
 use Rattle.placing.specs.Schedules.{Schedule}
-use Rattle.placing.specs.Tabulate.{tab, length-tab, getD-tab, tab-unique, getD-map-below}
+use Rattle.placing.specs.Tabulate.{tab, tab-unique, getD-map-below}
 use Rattle.placing.specs.AsFunctions.{Rows, listed}
-use Rattle.listing.specs.Lines.{Line, partAt, slotLines, feedLines, Plan, planLines}
+use Rattle.listing.specs.Lines.{Line, partAt, slotLines, feedLines, planLines}
 use Rattle.listing.specs.Text.{planText}
 use Rattle.listing.specs.Inputs.{tankAt, tanksOf, rowOf, placingOf, setOf}
-use Rattle.listing.specs.SetBits.{setBits, setBits-past}
+use Rattle.listing.specs.SetBits.{setBits-past}
 use Rattle.listing.specs.FeedLaws.{wordLines, slotLines-word, has-rowOf}
 use Rattle.listing.specs.LengthLaws.{getD-map-range}
 use Rattle.listing.specs.PlanSteps.{planOf}

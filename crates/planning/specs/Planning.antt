@@ -1,12 +1,12 @@
 -- The planning calls: what each answers, and what it leaves in the buffers lent to it. Definitions only. Assumes nothing.
 use mathlib.Core.Bool.{Bool, true, false, _&&_, _||_, not, cond}
-use mathlib.Core.List.{List, [], _∷_, _++_, map}
+use mathlib.Core.List.{List, [], _++_, map}
 use Prim.Native.Nat.{ℕ}
 use lib.Dec.{ltb, eqb}
-use lib.ListN.{length, replicate}
+use lib.ListN.{length}
 use Rattle.common.specs.Lists.{same}
 use Rattle.sheet.specs.declared.Refusal.{Refusal}
-use Rattle.sheet.specs.Sheet.{Job, Sheet, sheetOf}
+use Rattle.sheet.specs.Sheet.{Sheet, sheetOf}
 use Rattle.sheet.specs.Checks.{fault, firstRefusal, faults}
 use Rattle.sheet.specs.Calls.{over}
 use Rattle.placing.specs.Slots.{Slots}

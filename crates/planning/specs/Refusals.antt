@@ -9,7 +9,6 @@ use Rattle.sheet.specs.declared.Reading.{Reading}
 use Rattle.sheet.specs.Sheet.{Sheet, sheetOf}
 use Rattle.sheet.specs.Checks.{fault, firstRefusal}
 use Rattle.sheet.specs.Calls.{readingOf, over}
-use Rattle.theory.specs.SumsOver.{one}
 use Rattle.placing.specs.ReadLaws.{refused-before, accepted-before}
 use Rattle.stretches.specs.declared.Day.{Day}
 use Rattle.listing.specs.Opening.{Written}

@@ -8,6 +8,7 @@ use native.Mathlib.Omega.{arith}
 use lib.IntN.{ℤ, pos, subℕ}
 use lib.ListN.{length, getD, replicate}
 use borrow.Author.Tests.{ne-eqb}
+use Rattle.common.specs.ListLaws.{count-le-length}
 use Rattle.common.specs.Lists.{count}
 use Rattle.sheet.specs.declared.Refusal.{Refusal}
 use Rattle.sheet.specs.declared.Reading.{Reading}
@@ -96,11 +97,6 @@ unfolding sumOver
 capacity-full [] m = omega arith
 capacity-full (true ∷ q) m = omega (arith, capacity-full q m, suc-mul (count q) m)
 capacity-full (false ∷ q) m = omega (arith, capacity-full q m)
-
-pub count-le-length : (q : Slots) → count q ≤ length q
-count-le-length [] = omega arith
-count-le-length (true ∷ q) = omega (arith, count-le-length q)
-count-le-length (false ∷ q) = omega (arith, count-le-length q)
 
 -- The answer ------------------------------------------------------------------------
 

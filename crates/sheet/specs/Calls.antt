@@ -1,7 +1,7 @@
 -- What each public call answers, and what it leaves in a lent buffer. Assumes nothing.
-use mathlib.Core.Bool.{Bool, true, false, cond}
-use mathlib.Core.List.{List, [], _∷_, _++_}
-use Prim.Native.Nat.{ℕ, zero, suc, _+_, _-_, _*_}
+use mathlib.Core.Bool.{cond}
+use mathlib.Core.List.{List, [], _++_}
+use Prim.Native.Nat.{ℕ, zero, suc, _-_, _*_}
 use lib.Dec.{ltb, eqb}
 use lib.ListN.{length, drop, replicate}
 use Rattle.sheet.specs.declared.Refusal.{Refusal}
@@ -9,7 +9,7 @@ use Rattle.sheet.specs.declared.Reading.{Reading}
 use Rattle.sheet.specs.declared.Written.{Written}
 use Rattle.sheet.specs.declared.Part.{Part}
 use Rattle.sheet.specs.Limits.{lineBytes, maxRations, fields}
-use Rattle.sheet.specs.Sheet.{Job, Sheet, lineCount, lineAt, valueAt, sheetOf, writeSheet, numbersOf, jobsOf}
+use Rattle.sheet.specs.Sheet.{Sheet, lineCount, lineAt, valueAt, sheetOf, writeSheet, numbersOf, jobsOf}
 use Rattle.sheet.specs.Checks.{fault, firstRefusal, valueFaults, faults}
 
 -- read -----------------------------------------------------------------------

@@ -1,19 +1,19 @@
 -- How the checks of rations go on by one line, and what an empty list of refusals says. Assumes nothing.
 use mathlib.Core.Path.{_≡_, refl, sym, ap, _∙_}
-use mathlib.Core.Bool.{Bool, true, false, _&&_, _||_, not, cond, true≢false}
+use mathlib.Core.Bool.{Bool, true, false, _&&_, not, true≢false}
 use mathlib.Core.List.{List, [], _∷_, _++_}
-use Prim.Native.Nat.{ℕ, zero, suc, _+_, _-_, _*_, _≤_, _<_}
+use Prim.Native.Nat.{ℕ, suc, _+_, _-_, _*_, _≤_, _<_}
 use native.Mathlib.Numerals.{add-one}
 use native.Mathlib.Omega.{arith}
-use lib.Dec.{leb, ltb, eqb}
-use lib.ListN.{length, getD, take, drop}
+use lib.Dec.{leb, ltb}
+use lib.ListN.{length, getD, take}
 use borrow.Author.Tests.{leb-true, leb-false, le-ltb, lt-ltb}
 use Rattle.common.specs.Lists.{part}
 use Rattle.common.specs.ListLaws.{part-cons, part-none, part-front}
 use Rattle.sheet.specs.declared.Refusal.{Refusal}
 use Rattle.sheet.specs.Limits.{fields}
-use Rattle.sheet.specs.Sheet.{Job, jobsOf}
-use Rattle.sheet.specs.Checks.{fault, firstRefusal, tankFault, windowFault, volumeFault, mealFault, jobFaults, jobsFaults}
+use Rattle.sheet.specs.Sheet.{jobsOf}
+use Rattle.sheet.specs.Checks.{firstRefusal, tankFault, windowFault, volumeFault, mealFault, jobFaults, jobsFaults}
 use Rattle.sheet.specs.FaultLaws.{numbered-jobFaults}
 use Rattle.sheet.specs.Parts.{job}
 

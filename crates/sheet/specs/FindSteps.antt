@@ -12,7 +12,7 @@ use Rattle.common.specs.Lists.{part}
 use Rattle.sheet.specs.Limits.{lineBytes}
 use Rattle.sheet.specs.Sheet.{lineCount, lineAt, valueAt, sheetOf}
 use Rattle.sheet.specs.Checks.{firstRefusal, faults}
-use Rattle.sheet.specs.Calls.{accepted, readingOf, tankLines, lookUp, firstLine, placeOf}
+use Rattle.sheet.specs.Calls.{accepted, readingOf, lookUp, firstLine, placeOf}
 use Rattle.sheet.specs.Parts.{lineAfter}
 use Rattle.sheet.specs.declared.Part.{Part}
 use Rattle.sheet.specs.declared.Reading.{Reading}

@@ -1,16 +1,15 @@
 -- How the search for a faulty line goes on by one field and by one line, and where a line's fields stand in the sheet. Assumes nothing.
 use mathlib.Core.Path.{_≡_, refl, sym, ap, _∙_}
-use mathlib.Core.Bool.{Bool, true, false, _||_, not, cond}
+use mathlib.Core.Bool.{true, false, _||_, not, cond}
 use mathlib.Core.List.{List, [], _∷_, _++_}
 use Prim.Native.Nat.{ℕ, zero, suc, _+_, _-_, _*_, _≤_, _<_}
-use native.Mathlib.Nat.{add-assoc}
 use native.Mathlib.Numerals.{add-one}
 use native.Mathlib.Omega.{arith}
 use lib.Dec.{eqb}
-use lib.ListN.{length, getD, take, drop, set, length-take, length-drop, length-set}
+use lib.ListN.{length, getD, take, drop, set, length-drop}
 use lib.Seq.{take-add, take-take, drop-at, drop-drop, length-take-le, getD-take, getD-drop}
 use borrow.Author.Tests.{eq-eqb, ne-eqb}
-use Rattle.sheet.specs.Limits.{width, fields, lineBytes, newline, maxRations}
+use Rattle.sheet.specs.Limits.{width, fields, lineBytes, newline}
 use Rattle.sheet.specs.Field.{parse, numberOf, isFaulty, writeField}
 use Rattle.sheet.specs.FieldLaws.{length-writeField}
 use Rattle.sheet.specs.Sheet.{lineAt, fieldAt, valueAt, faultyFrom, faultyLine, writeLine}

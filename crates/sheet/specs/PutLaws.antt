@@ -1,15 +1,13 @@
 -- Laws of `putAt`: bytes put side by side, one byte, and a buffer's length. Assumes nothing.
-use mathlib.Core.Path.{_≡_, refl, sym, ap, _∙_}
-use mathlib.Core.Bool.{Bool, true, false, cond}
+use mathlib.Core.Path.{_≡_, sym, ap, _∙_}
 use mathlib.Core.List.{List, [], _∷_, _++_, append-assoc}
-use Prim.Native.Nat.{ℕ, zero, suc, _+_, _-_, _*_, _/_, _%_, _≤_, _<_}
+use Prim.Native.Nat.{ℕ, zero, suc, _+_, _-_, _/_, _%_, _≤_, _<_}
 use native.Mathlib.Numerals.{add-one}
 use native.Mathlib.Nat.{add-assoc}
 use native.Mathlib.Omega.{arith}
-use lib.Dec.{eqb}
 use borrow.Author.Tests.{eq-eqb, ne-eqb}
 use lib.ListN.{length, take, drop, set, length-append, length-take, length-drop, take-append-drop}
-use lib.Seq.{set-split, take-append-add, drop-append-add, length-take-le, take-at, drop-at, drop-drop, append-snoc}
+use lib.Seq.{set-split, drop-append-add, take-at, drop-drop}
 use Rattle.sheet.specs.Limits.{width, blank}
 use Rattle.sheet.specs.Field.{digit, leading, columns, writeField}
 use Rattle.sheet.specs.FieldLaws.{length-leading}

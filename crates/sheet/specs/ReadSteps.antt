@@ -1,25 +1,24 @@
 -- How reading a sheet goes on: the form, the numbers of its rations, and the answer. Assumes nothing.
 use mathlib.Core.Path.{_≡_, refl, sym, ap, _∙_}
 use mathlib.Core.Bool.{Bool, true, false, _||_, not, cond}
-use mathlib.Core.List.{List, [], _∷_, _++_, map, append-assoc, append-nil, map-append}
+use mathlib.Core.List.{List, [], _∷_, _++_, map, append-assoc, map-append}
 use Prim.Native.Nat.{ℕ, zero, suc, _+_, _-_, _*_, _/_, _%_, _≤_, _<_}
 use native.Mathlib.Numerals.{add-one}
 use native.Mathlib.Omega.{arith}
 use lib.Dec.{ltb, eqb}
 use lib.ListN.{length, take, drop, replicate, length-append, length-replicate, length-map}
-use lib.Seq.{take-at, drop-at, drop-append-add}
+use lib.Seq.{take-at, drop-append-add}
 use borrow.Author.Tests.{lt-ltb, le-ltb, eq-eqb, ne-eqb, eqb-true}
 use Rattle.common.specs.Lists.{range}
 use Rattle.common.specs.ListLaws.{range-snoc, flatMap-append, drop-replicate}
 use Rattle.sheet.specs.declared.Refusal.{Refusal}
-use Rattle.sheet.specs.declared.Reading.{Reading}
-use Rattle.sheet.specs.Limits.{width, fields, lineBytes, maxBytes, maxRations}
-use Rattle.sheet.specs.Sheet.{Job, Sheet, lineCount, lineAt, valueAt, jobAt, sheetOf, faultyLine, numbersOf, jobsOf}
-use Rattle.sheet.specs.Checks.{fault, firstRefusal, outside, lengthFaults, firstFaulty, formFaults, headFaults, jobsFaults, valueFaults, faults}
+use Rattle.sheet.specs.Limits.{fields, lineBytes, maxBytes, maxRations}
+use Rattle.sheet.specs.Sheet.{lineCount, lineAt, valueAt, jobAt, sheetOf, faultyLine, numbersOf, jobsOf}
+use Rattle.sheet.specs.Checks.{firstRefusal, outside, lengthFaults, firstFaulty, formFaults, headFaults, jobsFaults, valueFaults, faults}
 use Rattle.sheet.specs.Calls.{padded, accepted, refused, readingOf}
 use Rattle.sheet.specs.NumbersLaws.{length-numbersOf, jobsOf-numbersOf}
 use Rattle.sheet.specs.SheetLaws.{length-jobs-sheetOf}
-use Rattle.sheet.specs.FaultLaws.{Numbered, numbered-fault, numbered-before, numbered-headFaults, numbered-jobsFaults}
+use Rattle.sheet.specs.FaultLaws.{Numbered, numbered-fault, numbered-before, numbered-headFaults}
 use Rattle.sheet.specs.RangeLaws.{HeadInRange, inRange-headFaults}
 use Rattle.sheet.specs.Parts.{FormChecked, putAt, numbersAt, head}
 use Rattle.sheet.specs.CheckSteps.{first-left, first-right}

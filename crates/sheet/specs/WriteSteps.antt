@@ -1,32 +1,27 @@
 -- How writing a sheet and looking a tank up go on. Assumes nothing.
 use mathlib.Core.Path.{_≡_, refl, sym, ap, _∙_, subst}
-use mathlib.Core.Bool.{Bool, true, false, _||_, not, cond}
+use mathlib.Core.Bool.{true}
 use mathlib.Core.List.{List, [], _∷_, _++_, append-assoc, append-nil}
 use Prim.Native.Nat.{ℕ, zero, suc, _+_, _-_, _*_, _≤_, _<_}
-use native.Mathlib.Numerals.{add-one}
 use native.Mathlib.Omega.{arith}
 use lib.Dec.{ltb, eqb}
 use lib.ListN.{length, getD, take, drop, length-append, take-append-drop}
 use lib.Seq.{take-add, take-length, length-take-le}
-use borrow.Author.Tests.{lt-ltb, le-ltb, eq-eqb, ne-eqb, eqb-true, ltb-false}
+use borrow.Author.Tests.{lt-ltb, le-ltb, ne-eqb, eqb-true, ltb-false}
 use Rattle.common.specs.Lists.{part, flatMap}
 use Rattle.common.specs.ListLaws.{part-cons, part-none, flatMap-append}
 use Rattle.sheet.specs.declared.Refusal.{Refusal}
-use Rattle.sheet.specs.declared.Written.{Written}
-use Rattle.sheet.specs.Limits.{width, fields, lineBytes, maxRations}
-use Rattle.sheet.specs.Field.{parse, numberOf}
-use Rattle.sheet.specs.Sheet.{Job, Sheet, lineAt, valueAt, lineCount, writeLine, writeJob, writeSheet, jobsOf}
-use Rattle.sheet.specs.Checks.{fault, firstRefusal, headFaults, jobsFaults, valueFaults, faults}
+use Rattle.sheet.specs.Limits.{fields, lineBytes, maxRations}
+use Rattle.sheet.specs.Sheet.{Job, Sheet, writeLine, writeJob, writeSheet, jobsOf}
+use Rattle.sheet.specs.Checks.{fault, firstRefusal, headFaults, jobsFaults, valueFaults}
 use Rattle.sheet.specs.Calls.{writeRefusal, sheetFrom, over, writtenOf, bufferAfter}
 use Rattle.sheet.specs.NumbersLaws.{length-jobsOf}
 use Rattle.sheet.specs.LineLaws.{length-writeLine}
 use Rattle.sheet.specs.SheetLaws.{length-writeJob, length-writeSheet}
 use Rattle.sheet.specs.FaultLaws.{append-nil-parts, false-fault, numbered-append, numbered-fault, numbered-headFaults, numbered-jobsFaults, numbered-valueFaults}
 use Rattle.sheet.specs.RangeLaws.{HeadInRange, inRange-headFaults, inRange-valueFaults}
-use Rattle.sheet.specs.WellFormedLaws.{wellFormed-faults}
 use Rattle.sheet.specs.Parts.{putAt, head, job}
-use Rattle.sheet.specs.PutLaws.{putAt-append, length-putAt}
-use Rattle.sheet.specs.LineSteps.{value-place}
+use Rattle.sheet.specs.PutLaws.{putAt-append}
 use Rattle.sheet.specs.CheckSteps.{first-left, first-right}
 
 -- ---- rations side by side

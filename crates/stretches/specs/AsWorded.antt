@@ -1,12 +1,11 @@
 -- The method with its idle step worded as in document 01, high set to k − 1, settles the same as Method.antt, which takes the smaller of high and k − 1: no
 -- high is below k where blower k has not come yet. Assumes nothing.
-use mathlib.Core.Path.{_≡_, refl, sym, ap, ap₂, _∙_, subst}
+use mathlib.Core.Path.{_≡_, refl, sym, ap, _∙_}
 use mathlib.Core.Logic.{_⊎_, inl, inr}
-use mathlib.Core.Bool.{Bool, true, false}
 use mathlib.Core.List.{List}
 use Prim.Native.Nat.{ℕ, zero, suc, _+_, _-_, min, _≤_, _<_}
 use native.Mathlib.Omega.{arith}
-use lib.ListN.{length, getD, replicate, length-replicate, getD-replicate}
+use lib.ListN.{length, getD, length-replicate, getD-replicate}
 use lib.Seq.{ext-getD}
 use Rattle.placing.specs.Schedules.{Demand}
 use Rattle.stretches.specs.Method.{Bounds, dayBounds, onRun, idleFor, busyFor, longest, feasibleUnder, idleRun, busyRun, settle, settleAll}

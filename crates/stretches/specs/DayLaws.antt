@@ -1,11 +1,10 @@
 -- What the questions of a day say together: the answers of `choose_day` and `plan_day`. Assumes nothing.
-use mathlib.Core.Path.{_≡_, refl, sym, ap, _∙_, subst}
+use mathlib.Core.Path.{_≡_, sym, ap, _∙_, subst}
 use mathlib.Core.Bool.{Bool, true, false, not, true≢false, false≢true}
 use mathlib.Core.List.{List}
 use Prim.Native.Nat.{ℕ, _≤_, _<_}
-use native.Mathlib.Omega.{arith}
-use lib.ListN.{length, getD, take, replicate, length-replicate, getD-replicate}
-use Rattle.sheet.specs.Limits.{maxSlots, maxRations}
+use lib.ListN.{length, getD, replicate}
+use Rattle.sheet.specs.Limits.{maxSlots}
 use Rattle.sheet.specs.Calls.{padded}
 use Rattle.placing.specs.Schedules.{Demand, feasible}
 use Rattle.placing.specs.Represents.{Represents, Begun, CanBegin, markedLoads}
@@ -14,11 +13,9 @@ use Rattle.placing.specs.Words.{WindowWords, VolumeBytes}
 use Rattle.placing.specs.RationLaws.{length-demandsFrom}
 use Rattle.placing.specs.FeasibilitySteps.{demand-words, can-begin}
 use Rattle.placing.specs.HeldSteps.{full-words, length-full}
-use Rattle.placing.specs.CellChoice.{Feedable, ScheduleWords}
+use Rattle.placing.specs.CellChoice.{Feedable}
 use Rattle.placing.specs.ExactlyLaws.{represents-feedable}
-use Rattle.stretches.specs.declared.Day.{Day}
 use Rattle.stretches.specs.Method.{Bounds, dayBounds, FeasibleDay, settleAll, loads}
-use Rattle.stretches.specs.Feedings.{chosen}
 use Rattle.stretches.specs.Slotwise.{settleEach}
 use Rattle.stretches.specs.Settling.{Under, SomeDay, AllSettled}
 use Rattle.stretches.specs.SettlingLaws.{under-possible}

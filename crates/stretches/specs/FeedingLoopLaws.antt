@@ -1,5 +1,5 @@
 -- The loops that choose the feedings: what they keep, ration after ration in a slot and slot after slot. Assumes nothing.
-use mathlib.Core.Path.{_≡_, refl, sym, _∙_, ap, subst}
+use mathlib.Core.Path.{_≡_, sym, _∙_, subst}
 use mathlib.Core.List.{List}
 use Prim.Native.Nat.{ℕ, suc, _+_, _^_, _≤_, _<_}
 use native.Mathlib.Nat.{not-suc-le-zero}
@@ -11,7 +11,7 @@ use lib.Seq.{getD-set-same, getD-set-other}
 use Rattle.placing.specs.Schedules.{Demand}
 use Rattle.placing.specs.AsFunctions.{fed}
 use Rattle.placing.specs.Represents.{Represents}
-use Rattle.placing.specs.CellChoice.{Feedable, MayFeed, FedMarked, CanFeedBit, FedBit, RowWord, ScheduleWords}
+use Rattle.placing.specs.CellChoice.{Feedable, MayFeed, FedMarked, CanFeedBit, FedBit, RowWord}
 use Rattle.placing.specs.CellWordLaws.{at-zeros}
 use Rattle.placing.specs.CellMayLaws.{may-start}
 use Rattle.stretches.specs.Feedings.{chosen}

@@ -1,13 +1,12 @@
 -- The state of a loop that chooses the feedings cell after cell: words hold a placing of what is left before the cell. Each step of such a loop answers as
 -- the chosen placing does, and keeps the state. Assumes nothing.
-use mathlib.Core.Path.{_≡_, refl, sym, _∙_, ap}
+use mathlib.Core.Path.{_≡_, refl, sym, _∙_}
 use mathlib.Core.Bool.{Bool, true, false, not}
 use mathlib.Core.List.{List}
 use Prim.Native.Nat.{ℕ, suc, _<_}
 use native.Mathlib.Omega.{arith}
 use lib.ListN.{length}
 use Rattle.common.specs.Tests.{and-true}
-use Rattle.theory.specs.Placing.{count, Placing}
 use Rattle.theory.specs.Move.{upd}
 use Rattle.placing.specs.Schedules.{Demand, Windows, volumeOf, feasible}
 use Rattle.placing.specs.AsFunctions.{free, fed, bound}
@@ -15,7 +14,7 @@ use Rattle.placing.specs.Represents.{Represents}
 use Rattle.placing.specs.StepLaws.{represents-feasible}
 use Rattle.placing.specs.CellChoice.{Exactly, Decided}
 use Rattle.placing.specs.ExactlyLaws.{exactly-windows, exactly-some, represents-exactly}
-use Rattle.stretches.specs.Feedings.{Cells, chosen, before}
+use Rattle.stretches.specs.Feedings.{chosen, before}
 use Rattle.stretches.specs.FeedingCells.{before-self}
 use Rattle.stretches.specs.FeedingUndecided.{less, less-same, less-other, by-cases, undecided-out}
 use Rattle.stretches.specs.FeedingFunctions.{windowsFrom, windows-from-first, windows-from-next, windows-from-next-row, LeftFrom, left-from-first, left-from-exact, left-from-next, left-from-next-row, answers-fed}

@@ -1,16 +1,14 @@
 -- The stretches of a blower one after another: the first runs as long as its state, and the others are those of the slots after it. Assumes nothing.
-use mathlib.Core.Path.{_≡_, refl, sym, ap, _∙_}
+use mathlib.Core.Path.{_≡_, sym, ap, _∙_}
 use mathlib.Core.Bool.{Bool, true, false, cond, Bool·beq}
 use mathlib.Core.List.{List, [], _∷_, map}
-use Prim.Native.Nat.{ℕ, zero, suc, _+_, _-_, _≤_, _<_}
-use native.Mathlib.Numerals.{add-one}
+use Prim.Native.Nat.{ℕ, zero, suc, _+_, _≤_, _<_}
 use native.Mathlib.Omega.{arith}
 use lib.Dec.{leb}
 use lib.ListN.{length, getD, take, drop}
-use lib.Seq.{drop-nil, drop-drop, take-nil}
 use Rattle.common.specs.Lists.{part}
 use Rattle.common.specs.ListLaws.{part-cons, part-none, part-front}
-use Rattle.stretches.specs.Intervals.{Interval, join, runs, intervals, size}
+use Rattle.stretches.specs.Intervals.{Interval, join, runs, intervals}
 
 abbrev pub stretch : ℕ → ℕ → Bool → Interval
 stretch first last busy = record { first = first; last = last; busy = busy }

@@ -1,9 +1,9 @@
 -- What the code of the method requires and ensures, over words that hold a sound placing under bounds: F, R, H and C as crate `placing` names them, with a
 -- stroke as they are afterwards. Definitions only. Assumes nothing.
 use mathlib.Core.Path.{_≡_}
-use mathlib.Core.Bool.{Bool, true, false}
+use mathlib.Core.Bool.{Bool, false}
 use mathlib.Core.List.{List}
-use Prim.Native.Nat.{ℕ, _-_, _≤_, _<_}
+use Prim.Native.Nat.{ℕ, _-_, _<_}
 use Rattle.placing.specs.Schedules.{Demand}
 use Rattle.placing.specs.Represents.{Represents}
 use Rattle.stretches.specs.Method.{Bounds}

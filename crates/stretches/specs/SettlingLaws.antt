@@ -1,17 +1,17 @@
 -- How the code of the method goes on by one slot and by one blower. Assumes nothing.
 use mathlib.Core.Path.{_≡_, refl, sym, ap, _∙_, subst}
-use mathlib.Core.Bool.{Bool, true, false, not}
+use mathlib.Core.Bool.{Bool, true, false}
 use mathlib.Core.List.{List}
 use Prim.Native.Nat.{ℕ, zero, suc, _+_, _-_, _≤_, _<_}
 use native.Mathlib.Numerals.{add-one}
 use native.Mathlib.Omega.{arith}
 use Rattle.placing.specs.Schedules.{Demand}
-use Rattle.placing.specs.Represents.{Represents, Ready, Idled, Busied}
+use Rattle.placing.specs.Represents.{Ready, Idled, Busied}
 use Rattle.placing.specs.StepLaws.{represents-feasible, represents-ready}
 use Rattle.stretches.specs.Method.{Bounds, FeasibleDay, feasibleUnder}
-use Rattle.stretches.specs.Slotwise.{keepAt, busyAt, settleFrom, settleEach}
+use Rattle.stretches.specs.Slotwise.{keepAt, settleFrom, settleEach}
 use Rattle.stretches.specs.StepLaws.{other-possible, busyAt-stays, busyAt-changes}
-use Rattle.stretches.specs.Settling.{Under, SomeDay, SomeSlot, Stepped, Settled, AllSettled, Left, LeftBlowers, Passing, PassingBlowers}
+use Rattle.stretches.specs.Settling.{Under, SomeDay, SomeSlot, Stepped, Settled, Left, LeftBlowers, Passing, PassingBlowers}
 
 -- words that hold a day say that it has a sound placing
 pub under-possible : {slots : ℕ} {ds : List Demand} {b : Bounds} {F R H C : List ℕ} → Under slots ds b F R H C → FeasibleDay slots ds b

@@ -1,5 +1,5 @@
 -- `listing::grid::clear_grid` meets its contract. The bytes passed are 0. Assumes nothing.
-use mathlib.Core.Path.{_∙_, ap}
+use mathlib.Core.Path.{refl}
 use Prim.Native.Nat.{_-_, _≤_}
 use native.Mathlib.Omega.{arith}
 use mathlib.Core.Path.{refl}

@@ -1,7 +1,6 @@
 -- `placing::candidates::add_marked` meets its contract. Assumes nothing.
 use native.Mathlib.Omega.{arith}
 use Rattle.common.specs.Bits.{bit-or, bit-lt}
-use borrow.Author.Needs.{needs}
 use Rattle.placing.proofs.candidates.add_marked.Statement.{statement}
 use Rattle.placing.proofs.candidates.add_marked.Tie as tie
 

@@ -1,5 +1,5 @@
 -- `placing::feasibility::is_feasible` meets its contract. Assumes nothing.
-use mathlib.Core.Path.{refl, _∙_}
+use mathlib.Core.Path.{refl}
 use borrow.Author.Tests.{not-true, not-false}
 use Rattle.placing.specs.RationLaws.{rations-longest}
 use Rattle.placing.specs.WordLaws.{windows-of-day, volumes-of-day}

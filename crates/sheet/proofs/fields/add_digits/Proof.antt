@@ -1,6 +1,6 @@
 -- `sheet::fields::add_digits` meets its contract. The digits that are left go on from the value so far, which has room for them. Assumes nothing.
 use mathlib.Core.Path.{_≡_, refl, sym, _∙_}
-use Prim.Native.Nat.{suc, _+_, _*_, _^_, _≤_, _-_}
+use Prim.Native.Nat.{_+_, _*_, _^_, _≤_, _-_}
 use lib.ListN.{length, getD}
 use Rattle.common.specs.Lists.{part}
 use Rattle.sheet.specs.Limits.{width}

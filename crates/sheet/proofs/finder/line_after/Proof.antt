@@ -1,6 +1,6 @@
 -- `sheet::finder::line_after` meets its contract. Each line passed has the tank. Assumes nothing.
-use mathlib.Core.Path.{_≡_, refl, sym, ap, _∙_}
-use Prim.Native.Nat.{_+_, _*_, _≤_, _-_}
+use mathlib.Core.Path.{_≡_, refl, sym, _∙_}
+use Prim.Native.Nat.{_*_, _≤_, _-_}
 use lib.ListN.{length}
 use Rattle.sheet.specs.Limits.{lineBytes}
 use Rattle.sheet.specs.Parts.{lineAfter}

@@ -1,11 +1,6 @@
 -- `sheet::finder::place` meets its contract. Assumes nothing.
-use mathlib.Core.Path.{_≡_, refl, ap, sym, _∙_}
-use mathlib.Core.List.{[]}
-use Prim.Native.Nat.{_+_, _*_, _/_, _≤_}
-use lib.ListN.{length}
-use Rattle.sheet.specs.Limits.{lineBytes}
+use mathlib.Core.Path.{refl, ap, _∙_}
 use Rattle.sheet.specs.Sheet.{lineCount}
-use Rattle.sheet.specs.Checks.{faults}
 use Rattle.sheet.specs.WellFormedLaws.{wellFormed-faults}
 use Rattle.sheet.specs.FindSteps.{read-faults, place-unread, between, place-none, place-some, placed}
 use native.Mathlib.Omega.{arith}

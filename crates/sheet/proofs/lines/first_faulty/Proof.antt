@@ -1,5 +1,5 @@
 -- `sheet::lines::first_faulty` meets its contract. The first faulty line from a line on is the first of all, and a line is faulty where its fields from one on are. Assumes nothing.
-use mathlib.Core.Path.{_≡_, refl, sym, _∙_, ap}
+use mathlib.Core.Path.{_≡_, refl, sym, _∙_}
 use Prim.Native.Nat.{_+_, _*_, _≤_, _-_}
 use lib.ListN.{length}
 use Rattle.sheet.specs.Limits.{width, fields, lineBytes}

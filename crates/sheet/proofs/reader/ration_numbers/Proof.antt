@@ -1,5 +1,5 @@
 -- `sheet::reader::ration_numbers` meets its contract. The lines passed have their numbers in their places, and zeros follow. Assumes nothing.
-use mathlib.Core.Path.{_≡_, refl, ap, _∙_}
+use mathlib.Core.Path.{_≡_, ap, _∙_}
 use Prim.Native.Nat.{_+_, _*_, _≤_, _-_}
 use lib.ListN.{length}
 use Rattle.sheet.specs.Limits.{fields, lineBytes, maxRations}

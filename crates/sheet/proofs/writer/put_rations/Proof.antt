@@ -1,6 +1,5 @@
 -- `sheet::writer::put_rations` meets its contract. The lines of the rations passed stand side by side after the head line. Assumes nothing.
 use mathlib.Core.Path.{_≡_, refl, ap, _∙_}
-use mathlib.Core.List.{_++_}
 use Prim.Native.Nat.{_+_, _*_, _≤_, _-_}
 use lib.ListN.{length}
 use Rattle.common.specs.Lists.{flatMap}

@@ -2,7 +2,7 @@
 use mathlib.Core.Path.{ap, sym, _∙_}
 use lib.ListN.{length}
 use Rattle.sheet.specs.Calls.{sheetFrom}
-use Rattle.sheet.specs.WriteSteps.{WriteAccepted, write-accepted, written-refused, written-length, written-buffer}
+use Rattle.sheet.specs.WriteSteps.{write-accepted, written-refused, written-length, written-buffer}
 use native.Mathlib.Omega.{arith}
 use borrow.Author.Needs.{needs}
 use Rattle.sheet.proofs.writer.write.Statement.{statement}
