@@ -49,6 +49,7 @@ count-take q t l =
     ∙ sum-cong (λ i m. ap one (getD-take t q i false m))
 
 module _ (marks : List ℕ) where
+  -- the counts without the places after them
   abbrev all : List ℕ
   all = tab (suc (length marks)) (markedTo marks)
 
@@ -99,6 +100,7 @@ sum-between a d n f g l m before between past =
     )
 
 module _ (marks : List ℕ) (release deadline : ℕ) (first : 1 ≤ release) (order : release ≤ deadline) (last : deadline ≤ length marks) where
+  -- the window
   abbrev E : Slots
   E = window (length marks) release deadline
 
@@ -116,7 +118,7 @@ module _ (marks : List ℕ) (release deadline : ℕ) (first : 1 ≤ release) (or
       has-window (length marks) release deadline t m
       ∙ rw (le-leb release (suc t) (omega arith), lt-leb (suc t) deadline (omega arith)) refl
 
-  -- the marks before a window and those in it are the marks up to its end
+  -- the marks before a window and those in it are the marks up to its last slot
   pub counts-window : getD (countsBefore marks) (release - 1) 0 + inside E (marked marks) ≡ getD (countsBefore marks) deadline 0
   counts-window =
       omega (

@@ -1,4 +1,4 @@
--- `has_bit` meets its contract: it is the definition of a bit. Assumes nothing.
+-- `bits::has_bit` meets its contract: it is the definition of a bit. Assumes nothing.
 use mathlib.Core.Path.{refl}
 use Rattle.common.specs.Bits.{bit}
 use borrow.Author.Needs.{needs}

@@ -1,4 +1,4 @@
--- `main` meets its contract: what it writes is within the buffer. Assumes nothing.
+-- `planner::main` meets its contract: what it writes is within the buffer. Assumes nothing.
 use mathlib.Core.Path.{sym, subst}
 use Prim.Native.Nat.{_≤_}
 use native.Mathlib.Omega.{arith}

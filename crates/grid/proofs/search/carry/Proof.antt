@@ -1,4 +1,4 @@
--- `carry` meets its contract. The loop keeps what `Carrying` says of the chain made so far; the measure is the number of the slot that it has
+-- `grid::search::carry` meets its contract. The loop keeps what `Carrying` says of the chain made so far; the measure is the number of the slot that it has
 -- come back to. Assumes nothing.
 use Rattle.grid.specs.Grid.{at}
 use Rattle.grid.specs.CarryLaws.{Carrying, carrying-start, carrying-parent, carrying-shift, carrying-next, carried}

@@ -1,4 +1,4 @@
--- `is_open` meets its contract. Assumes nothing.
+-- `grid::search::is_open` meets its contract. Assumes nothing.
 use mathlib.Core.Path.{sym, _∙_}
 use borrow.Author.Needs.{needs}
 use borrow.Author.Tests.{ltb-true}

@@ -1,4 +1,4 @@
--- `is_parent` meets its contract. Assumes nothing.
+-- `grid::search::is_parent` meets its contract. Assumes nothing.
 use native.Mathlib.Nat.{pos-of-ne-zero}
 use native.Mathlib.Omega.{arith}
 use borrow.Author.Tests.{eqb-true, eqb-false, not-true, not-false}

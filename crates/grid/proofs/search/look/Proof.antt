@@ -1,4 +1,4 @@
--- `look` meets its contract: it skips slot y, marks it, or finds it. Assumes nothing.
+-- `grid::search::look` meets its contract: it skips slot y, marks it, or finds it. Assumes nothing.
 use mathlib.Core.Path.{sym, _∙_}
 use native.Mathlib.Omega.{arith}
 use borrow.Author.Tests.{ltb-true, ltb-false}

@@ -1,4 +1,4 @@
--- `parent` meets its contract. The loop has passed no parent of e, and there is one. Assumes nothing.
+-- `grid::search::parent` meets its contract. The loop has passed no parent of e, and there is one. Assumes nothing.
 use Prim.Native.Nat.{_-_}
 use native.Mathlib.Omega.{arith}
 use borrow.Author.Needs.{needs}

@@ -1,4 +1,4 @@
--- `push` meets its contract: one move, or a chain of any length. Assumes nothing.
+-- `grid::search::push` meets its contract: one move, or a chain of any length. Assumes nothing.
 use native.Mathlib.Omega.{arith}
 use Rattle.grid.specs.StraightLaws.{straight-shift, pushed-straight}
 use borrow.Author.Needs.{needs}

@@ -1,4 +1,4 @@
--- `push_along` meets its contract. Assumes nothing.
+-- `grid::search::push_along` meets its contract. Assumes nothing.
 use native.Mathlib.Omega.{arith}
 use Rattle.grid.specs.CarryLaws.{push-spread, push-carry, pushed-won, pushed-lost}
 use Rattle.grid.proofs.search.push_along.Statement.{statement}

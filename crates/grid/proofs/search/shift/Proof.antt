@@ -1,4 +1,4 @@
--- `shift` meets its contract: the lowest ration of the edge goes from x to y. Assumes nothing.
+-- `grid::search::shift` meets its contract: the lowest ration of the edge goes from x to y. Assumes nothing.
 use Rattle.grid.specs.ShiftLaws.{edge-ration, ration-move}
 use borrow.Author.Needs.{needs}
 use Rattle.grid.proofs.search.shift.Statement.{statement}

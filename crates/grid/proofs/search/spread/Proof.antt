@@ -1,4 +1,4 @@
--- `spread` meets its contract. The loop keeps that full slots were marked, one after another; the measure is how many numbers are left to
+-- `grid::search::spread` meets its contract. The loop keeps that full slots were marked, one after another; the measure is how many numbers are left to
 -- give. Assumes nothing.
 use Prim.Native.Nat.{_-_}
 use native.Mathlib.Omega.{arith}

@@ -1,4 +1,4 @@
--- `straight` meets its contract: the slot that it stops at is open. Assumes nothing.
+-- `grid::search::straight` meets its contract: the slot that it stops at is open. Assumes nothing.
 use Prim.Native.Nat.{_-_, _≤_}
 use native.Mathlib.Omega.{arith}
 use borrow.Author.Needs.{needs}

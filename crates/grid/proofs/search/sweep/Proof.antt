@@ -1,4 +1,4 @@
--- `sweep` meets its contract. The loop keeps what `Sweeping` says of the slots passed. Assumes nothing.
+-- `grid::search::sweep` meets its contract. The loop keeps what `Sweeping` says of the slots passed. Assumes nothing.
 use Prim.Native.Nat.{_-_}
 use native.Mathlib.Omega.{arith}
 use borrow.Author.Needs.{needs}

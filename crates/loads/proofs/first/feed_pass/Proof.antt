@@ -1,4 +1,4 @@
--- `feed_pass` meets its contract. The loop keeps what `Passing` says of the slots passed. Assumes nothing.
+-- `loads::first::feed_pass` meets its contract. The loop keeps what `Passing` says of the slots passed. Assumes nothing.
 use Prim.Native.Nat.{_-_}
 use native.Mathlib.Omega.{arith}
 use Rattle.grid.specs.Grid.{slots}

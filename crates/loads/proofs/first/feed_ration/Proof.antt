@@ -1,4 +1,4 @@
--- `feed_ration` meets its contract: the second pass, with room everywhere, leaves no feeding to make. Assumes nothing.
+-- `loads::first::feed_ration` meets its contract: the second pass, with room everywhere, leaves no feeding to make. Assumes nothing.
 use Rattle.loads.specs.FirstLaws.{ration-fed}
 use borrow.Author.Needs.{needs}
 use Rattle.loads.proofs.first.feed_ration.Statement.{statement}

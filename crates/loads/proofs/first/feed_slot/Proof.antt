@@ -1,4 +1,4 @@
--- `feed_slot` meets its contract: nothing changes, or ration j is fed in slot t. Assumes nothing.
+-- `loads::first::feed_slot` meets its contract: nothing changes, or ration j is fed in slot t. Assumes nothing.
 use mathlib.Core.Path.{sym, _∙_}
 use mathlib.Core.Logic.{inl, inr}
 use native.Mathlib.Nat.{pos-of-ne-zero}

@@ -1,4 +1,4 @@
--- `place_first` meets its contract. The loop keeps what `Starting` says of the rations passed. Assumes nothing.
+-- `loads::first::place_first` meets its contract. The loop keeps what `Starting` says of the rations passed. Assumes nothing.
 use Prim.Native.Nat.{_-_}
 use native.Mathlib.Omega.{arith}
 use borrow.Author.Needs.{needs}

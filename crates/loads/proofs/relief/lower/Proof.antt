@@ -1,4 +1,4 @@
--- `lower` meets its contract: only slot t can hold more than the new highs. Assumes nothing.
+-- `loads::relief::lower` meets its contract: only slot t can hold more than the new highs. Assumes nothing.
 use Rattle.loads.specs.RelieveLaws.{lower-unload, lowered-done, lowered-held}
 use borrow.Author.Needs.{needs}
 use Rattle.loads.proofs.relief.lower.Statement.{statement}

@@ -1,4 +1,4 @@
--- `raise` meets its contract: `lower` on the exchanged words. Assumes nothing.
+-- `loads::relief::raise` meets its contract: `lower` on the exchanged words. Assumes nothing.
 use native.Mathlib.Omega.{arith}
 use Rattle.loads.specs.ExchangeLaws.{raised-narrow, raised-wide}
 use borrow.Author.Needs.{needs}

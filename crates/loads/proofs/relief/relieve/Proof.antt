@@ -1,4 +1,4 @@
--- `relieve` meets its contract. The loop keeps what `Relieving` says of the slots passed. Assumes nothing.
+-- `loads::relief::relieve` meets its contract. The loop keeps what `Relieving` says of the slots passed. Assumes nothing.
 use Prim.Native.Nat.{_-_}
 use native.Mathlib.Omega.{arith}
 use borrow.Author.Needs.{needs}

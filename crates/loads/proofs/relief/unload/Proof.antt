@@ -1,4 +1,4 @@
--- `unload` meets its contract. The loop keeps what `Unloading` says; the measure is the load of slot t, which each search lessens.
+-- `loads::relief::unload` meets its contract. The loop keeps what `Unloading` says; the measure is the load of slot t, which each search lessens.
 -- Assumes nothing.
 use mathlib.Core.Path.{sym, _∙_}
 use native.Mathlib.Nat.{pos-of-ne-zero}

@@ -1,4 +1,4 @@
--- `width` meets its contract: a word has at most 64 bits. Assumes nothing.
+-- `loads::relief::width` meets its contract: a word has at most 64 bits. Assumes nothing.
 use mathlib.Core.Path.{refl}
 use native.Mathlib.Omega.{arith}
 use lib.Count.{ones-le}

@@ -1,4 +1,4 @@
--- `widths` meets its contract. Assumes nothing.
+-- `loads::relief::widths` meets its contract. Assumes nothing.
 use Prim.Native.Nat.{_-_}
 use native.Mathlib.Omega.{arith}
 use borrow.Author.Needs.{needs}

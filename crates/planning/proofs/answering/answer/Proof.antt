@@ -1,4 +1,4 @@
--- `listing::answering::answer` meets its contract. Assumes nothing.
+-- `planning::answering::answer` meets its contract. Assumes nothing.
 use Rattle.planning.specs.CallAnswers.{short-plan, room-plan}
 use Rattle.planning.specs.WrittenLaws.{writes-planned, writes-held}
 use Rattle.planning.specs.OutputLaws.{writes-not, output-short, output-listed, output-refused}

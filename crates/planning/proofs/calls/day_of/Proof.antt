@@ -1,4 +1,4 @@
--- `listing::calls::day_of` meets its contract. Assumes nothing.
+-- `planning::calls::day_of` meets its contract. Assumes nothing.
 use Rattle.planning.specs.SheetDays.{read-blowers, read-rations, day-found}
 use native.Mathlib.Omega.{arith}
 use borrow.Author.Needs.{needs}

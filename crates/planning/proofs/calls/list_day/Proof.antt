@@ -1,4 +1,4 @@
--- `listing::calls::list_day` meets its contract. Assumes nothing.
+-- `planning::calls::list_day` meets its contract. Assumes nothing.
 use Rattle.planning.specs.SheetDays.{plan-can, plan-written, held-can, held-written}
 use borrow.Author.Needs.{needs}
 use Rattle.planning.proofs.calls.list_day.Statement.{statement}

@@ -1,4 +1,4 @@
--- `listing::calls::place_day` meets its contract. Assumes nothing.
+-- `planning::calls::place_day` meets its contract. Assumes nothing.
 use Rattle.planning.specs.SheetDays.{grid-can, grid-written, held-grid}
 use borrow.Author.Needs.{needs}
 use Rattle.planning.proofs.calls.place_day.Statement.{statement}

@@ -1,4 +1,4 @@
--- `listing::calls::plan` meets its contract. Assumes nothing.
+-- `planning::calls::plan` meets its contract. Assumes nothing.
 use mathlib.Core.Path.{_∙_}
 use Rattle.planning.specs.Planning.{shortPlan}
 use Rattle.planning.specs.CallAnswers.{short-plan, room-plan, listed-read, listed-short, listed-day}

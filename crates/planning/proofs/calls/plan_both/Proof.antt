@@ -1,4 +1,4 @@
--- `listing::calls::plan_both` meets its contract. Assumes nothing.
+-- `planning::calls::plan_both` meets its contract. Assumes nothing.
 use mathlib.Core.Path.{_∙_}
 use mathlib.Core.Bool.{_||_}
 use Rattle.common.specs.Tests.{or-left, or-right}

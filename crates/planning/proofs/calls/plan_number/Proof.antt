@@ -1,4 +1,4 @@
--- `listing::calls::plan_number` meets its contract. Assumes nothing.
+-- `planning::calls::plan_number` meets its contract. Assumes nothing.
 use mathlib.Core.Path.{refl, _∙_}
 use mathlib.Core.Bool.{false}
 use Rattle.planning.specs.CallAnswers.{unlisted-read, unlisted-day}

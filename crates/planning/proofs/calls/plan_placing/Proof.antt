@@ -1,4 +1,4 @@
--- `listing::calls::plan_placing` meets its contract. Assumes nothing.
+-- `planning::calls::plan_placing` meets its contract. Assumes nothing.
 use mathlib.Core.Path.{_∙_}
 use Rattle.planning.specs.Planning.{shortGrid}
 use Rattle.planning.specs.CallAnswers.{short-grid, room-grid, unlisted-read, unlisted-short, unlisted-day, placed-read, placed-short, placed-day}

@@ -1,4 +1,4 @@
--- `listing::comparing::compare` meets its contract. Assumes nothing.
+-- `planning::comparing::compare` meets its contract. Assumes nothing.
 use mathlib.Core.Path.{_∙_}
 use Rattle.planning.specs.CompareSteps.{compare-first, compare-first-held, compare-second, compare-second-held, compare-days}
 use borrow.Author.Needs.{needs}

@@ -1,4 +1,4 @@
--- `listing::comparing::same_counts` meets its contract. Assumes nothing.
+-- `planning::comparing::same_counts` meets its contract. Assumes nothing.
 use mathlib.Core.Path.{_≡_}
 use Prim.Native.Nat.{_≤_, _-_}
 use lib.ListN.{length}

@@ -1,4 +1,4 @@
--- `listing::comparing::same_days` meets its contract. Assumes nothing.
+-- `planning::comparing::same_days` meets its contract. Assumes nothing.
 use Rattle.planning.specs.SheetDays.{day-slots}
 use Rattle.planning.specs.CompareSteps.{days-other-slots, days-counts}
 use borrow.Author.Needs.{needs}

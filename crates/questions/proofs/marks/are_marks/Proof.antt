@@ -1,4 +1,4 @@
--- `placing::marks::are_marks` meets its contract: what the marks from one on say of all, they say of all marks. Assumes nothing.
+-- `questions::marks::are_marks` meets its contract: what the marks from one on say of all, they say of all marks. Assumes nothing.
 use mathlib.Core.Path.{_≡_, refl, sym, _∙_}
 use mathlib.Core.List.{map}
 use Prim.Native.Nat.{_-_, _≤_}

@@ -1,4 +1,4 @@
--- `placing::marks::is_faulty` meets its contract. Assumes nothing.
+-- `questions::marks::is_faulty` meets its contract. Assumes nothing.
 use mathlib.Core.Path.{ap}
 use mathlib.Core.Bool.{not}
 use borrow.Author.Tests.{eq-eqb, ne-eqb}

@@ -1,4 +1,4 @@
--- `placing::question::are_ordered` meets its contract: what the slots from one on say of all, they say of all slots. Assumes nothing.
+-- `questions::question::are_ordered` meets its contract: what the slots from one on say of all, they say of all slots. Assumes nothing.
 use mathlib.Core.Path.{_≡_, refl, sym, _∙_}
 use Prim.Native.Nat.{_-_, _≤_}
 use lib.Dec.{leb}

@@ -1,4 +1,4 @@
--- `placing::question::bounds` meets its contract: the sheet is refused, a list is refused, a low is above its high, or the answer is that of the search. Assumes nothing.
+-- `questions::question::bounds` meets its contract: the sheet is refused, a list is refused, a low is above its high, or the answer is that of the search. Assumes nothing.
 use mathlib.Core.Path.{sym, _∙_}
 use borrow.Author.Tests.{not-true, not-false}
 use Rattle.placing.specs.ReadLaws.{read-accepted}

@@ -1,4 +1,4 @@
--- `placing::question::cut_highs` meets its contract: after t slots it has their highs, cut. Assumes nothing.
+-- `questions::question::cut_highs` meets its contract: after t slots it has their highs, cut. Assumes nothing.
 use Prim.Native.Nat.{_-_, _≤_}
 use lib.ListN.{length}
 use Rattle.sheet.specs.Limits.{maxSlots}

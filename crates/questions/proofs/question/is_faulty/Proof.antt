@@ -1,4 +1,4 @@
--- `placing::question::is_faulty` meets its contract. Assumes nothing.
+-- `questions::question::is_faulty` meets its contract. Assumes nothing.
 use borrow.Author.Tests.{eq-eqb, ne-eqb}
 use Rattle.questions.specs.Calls.{boundsFault}
 use Rattle.questions.proofs.question.is_faulty.Statement.{statement}

@@ -1,4 +1,4 @@
--- `placing::question::low_bytes` meets its contract: after t slots it has their lows. Assumes nothing.
+-- `questions::question::low_bytes` meets its contract: after t slots it has their lows. Assumes nothing.
 use mathlib.Core.Path.{refl}
 use Prim.Native.Nat.{_-_, _≤_}
 use lib.ListN.{length}

@@ -1,4 +1,4 @@
--- `placing::shortfalls::difference` meets its contract. Assumes nothing.
+-- `questions::shortfalls::difference` meets its contract. Assumes nothing.
 use Rattle.questions.specs.SignedSteps.{difference-fits, difference-is}
 use native.Mathlib.Omega.{arith}
 use borrow.Author.Needs.{needs}
