@@ -1,7 +1,7 @@
 -- What each public call answers, and what it leaves in a lent buffer. Assumes nothing.
 use mathlib.Core.Bool.{cond}
 use mathlib.Core.List.{List, [], _++_}
-use Prim.Native.Nat.{ℕ, zero, suc, _-_, _*_}
+use Prim.Native.Nat.{ℕ, zero, suc, _+_, _-_, _*_}
 use lib.Dec.{ltb, eqb}
 use lib.ListN.{length, drop, replicate}
 use Rattle.sheet.specs.declared.Refusal.{Refusal}
@@ -91,3 +91,8 @@ placeOf b tank =
     cond (eqb (length (lookUp b tank)) 0)
     (record { start = 0; length = 0 })
     (record { start = lineBytes * firstLine b tank 1 (lineCount b - 1); length = length (lookUp b tank) })
+
+-- where byte i of a slice is in memory: in the object in which the slice begins, i bytes further on; a place in memory
+-- is an object and how many of its bytes come before
+unfoldable pub byteFrom : ℕ × ℕ → ℕ → ℕ × ℕ
+byteFrom begin i = (begin .0, begin .1 + i)

@@ -12,7 +12,7 @@ use Rattle.common.specs.Lists.{part}
 use Rattle.sheet.specs.Limits.{lineBytes}
 use Rattle.sheet.specs.Sheet.{lineCount, lineAt, valueAt, sheetOf}
 use Rattle.sheet.specs.Checks.{firstRefusal, faults}
-use Rattle.sheet.specs.Calls.{accepted, readingOf, lookUp, firstLine, placeOf}
+use Rattle.sheet.specs.Calls.{accepted, readingOf, lookUp, firstLine, placeOf, byteFrom}
 use Rattle.sheet.specs.Parts.{lineAfter}
 use Rattle.sheet.specs.declared.Part.{Part}
 use Rattle.sheet.specs.declared.Reading.{Reading}
@@ -71,7 +71,7 @@ module _ (b : List ℕ) (tank i lines : ℕ) where
 abbrev pub nowhere : Part
 nowhere = record { start = 0; length = 0 }
 
-nowhere-empty : (b : List ℕ) (tank : ℕ) → lookUp b tank ≡ [] → nowhere ≡ placeOf b tank
+pub nowhere-empty : (b : List ℕ) (tank : ℕ) → lookUp b tank ≡ [] → nowhere ≡ placeOf b tank
 unfolding placeOf
 nowhere-empty b tank e = sym (rw e)
 
@@ -196,6 +196,12 @@ place-within b tank = go (eqb (length (lookUp b tank)) 0) refl (eqb (firstRefusa
 
 pub placed-within : (b : List ℕ) (tank : ℕ) (p : Part) → p ≡ placeOf b tank → p .start + p .length ≤ length b
 placed-within b tank p e = omega (arith, place-within b tank, ap (λ (x : Part). x .start) e, ap (λ (x : Part). x .length) e)
+
+-- a part that is cut out at the place begins where it is promised to
+pub placed-begins : (b : List ℕ) (tank : ℕ) (p : Part) (begin : ℕ × ℕ) → p ≡ placeOf b tank
+    → (begin .0, p .start + begin .1) ≡ byteFrom begin (placeOf b tank .start)
+unfolding byteFrom
+placed-begins b tank p begin e = ap (λ n. (begin .0, n)) (omega (arith, ap (λ (x : Part). x .start) e))
 
 -- the two promises of a place are one
 pub placed : (b : List ℕ) (tank : ℕ) (p : Part) → p ≡ placeOf b tank → (p ≡ placeOf b tank) × (part (p .start) (p .start + p .length) b ≡ lookUp b tank)

@@ -63,17 +63,20 @@ read-written-again b old z h =
     (read-written b e)
     (accepted-again (sheetOf b) old v (rw (read-written b e) h))
 
--- And the other way round: the values that the writer accepted, read again from what it wrote, are the same values.
+-- And the other way round: the values that the writer accepted, read again from what it wrote, are the same values,
+-- those of n rations.
 pub written-read-again : (slots blowers wake n : ℕ) (numbers old : List ℕ)
     → let s = sheetFrom slots blowers wake numbers in let r = writeRefusal s n numbers (length old) in
-    r .number ≡ 0 → (readingOf (take (writtenOf r s .length) (bufferAfter r s old)) ≡ accepted s) × (rationsRead (accepted s) ≡ numbers)
-unfolding sheetFrom writtenOf bufferAfter
+    r .number ≡ 0
+    → (readingOf (take (writtenOf r s .length) (bufferAfter r s old)) ≡ accepted s) × (accepted s .rations ≡ n) × (rationsRead (accepted s) ≡ numbers)
+unfolding sheetFrom writtenOf bufferAfter accepted
 written-read-again slots blowers wake n numbers old e =
     let s = sheetFrom slots blowers wake numbers in
     let a = write-accepted s n numbers (length old) e in
     let m = sym (length-jobsOf n numbers (sym (a .agrees))) in (
       rw (eq-eqb (writeRefusal s n numbers (length old) .number) 0 e)
           (ap readingOf (take-over (writeSheet s) old) ∙ written-read s (subst (λ k. valueFaults s k true ≡ []) m (a .values))),
+      sym m,
       rationsRead-accepted s ∙ numbersOf-jobsOf n numbers (sym (a .agrees)),
     )
 

@@ -8,7 +8,7 @@ ghost use Prim.Native.Nat.{ℕ, _+_, _-_, _*_, _≤_, _<_};
 ghost use lib.ListN.{length};
 ghost use Rattle.common.specs.Lists.{part};
 ghost use Rattle.sheet.specs.Limits.{lineBytes};
-ghost use Rattle.sheet.specs.Calls.{firstLine, lookUp, placeOf};
+ghost use Rattle.sheet.specs.Calls.{firstLine, lookUp, placeOf, byteFrom};
 ghost use Rattle.sheet.specs.Parts.{lineAfter};
 
 // The first ration line of a tank, or the number of lines where there is none.
@@ -68,9 +68,12 @@ pub fn place(b: &[u8], tank: u32) -> Part
     }
 }
 
-// All lines of a tank, as one part of the sheet itself; empty where the sheet is refused or has no such tank.
+// All lines of a tank, as one part of the sheet itself; empty where the sheet is refused or has no such tank. The part
+// is the sheet's own bytes, from the start that `placeOf` gives on, an empty part too. Its bytes alone don't say where
+// it is, because the head line may be the same as the tank's line; `ptr` is where a slice begins in memory.
 pub fn find(b: &[u8], tank: u32) -> &[u8]
     ensures { λ r. ⌜ now r ≡ lookUp (now (b .entry)) tank ⌝ }
+    ensures { λ r. ⌜ r .ptr ≡ byteFrom (b .entry .ptr) (placeOf (now (b .entry)) tank .start) ⌝ }
 {
     let p = place(b, tank);
     let start = p.start;

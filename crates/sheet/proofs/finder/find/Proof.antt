@@ -1,5 +1,5 @@
 -- `sheet::finder::find` meets its contract. Assumes nothing.
-use Rattle.sheet.specs.FindSteps.{placed-within}
+use Rattle.sheet.specs.FindSteps.{placed-within, placed-begins}
 use native.Mathlib.Omega.{arith}
 use borrow.Author.Needs.{needs}
 use Rattle.sheet.proofs.finder.find.Statement.{statement}
@@ -21,7 +21,7 @@ part-result-end : tie.Need-part-result-end
 part-result-end c = placed-within (c .before .before .before .args .b .now) (c .before .before .before .args .tank) _ (c .before .place .ensures .0)
 
 returns : tie.Need-returns
-returns c = c .before .before .place .ensures .1
+returns c = (c .before .before .place .ensures .1, placed-begins _ _ _ (c .before .before .before .before .args .b .ptr) (c .before .before .place .ensures .0))
 
 pub find-spec : {M : Type 1} → statement M
 find-spec =
