@@ -16,13 +16,18 @@ fn step(h: u32, b: u8) -> u32 {
     (h % 65521 * 31 + b as u32) % 65521
 }
 
-// From 0, for each byte h becomes (h * 31 + byte) modulo 65,521.
-pub fn digest(bytes: &[u8]) -> u32 {
-    let mut h = 0;
+// The digest of bytes that come after others, whose digest is h: for each byte h becomes (h * 31 + byte) modulo 65,521.
+pub fn digest_after(h: u32, bytes: &[u8]) -> u32 {
+    let mut d = h;
     let mut i = 0;
     while i < bytes.len() {
-        h = step(h, bytes[i]);
+        d = step(d, bytes[i]);
         i += 1;
     }
-    h
+    d
+}
+
+// The digest of bytes; that of none is 0.
+pub fn digest(bytes: &[u8]) -> u32 {
+    digest_after(0, bytes)
 }

@@ -9,6 +9,7 @@ mod output;
 mod payloads;
 
 pub use buffers::digest;
+pub use buffers::digest_after;
 pub use buffers::fill;
 pub use input::next_case;
 pub use input::room;

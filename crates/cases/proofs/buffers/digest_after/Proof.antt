@@ -1,15 +1,15 @@
--- `cases::buffers::digest` is safe and ends. The measure is how many bytes are left. Assumes nothing.
+-- `cases::buffers::digest_after` is safe and ends. The measure is how many bytes are left. Assumes nothing.
 use Prim.Native.Nat.{_-_}
 use lib.ListN.{length}
 use borrow.Author.Needs.{needs}
-use Rattle.cases.proofs.buffers.digest.Statement.{statement}
-use Rattle.cases.proofs.buffers.digest.Tie as tie
+use Rattle.cases.proofs.buffers.digest_after.Statement.{statement}
+use Rattle.cases.proofs.buffers.digest_after.Tie as tie
 
 abbrev Inv-loop : tie.InvT-loop
-Inv-loop bytes h₀ i₀ h i = Unit {0}
+Inv-loop h bytes d₀ i₀ d i = Unit {0}
 
 abbrev μ-loop : tie.MeasureT-loop
-μ-loop bytes h₀ i₀ h i = length bytes - i
+μ-loop h bytes d₀ i₀ d i = length bytes - i
 
 loop-holds : tie.Need-loop-holds Inv-loop μ-loop
 loop-holds c = search needs
@@ -32,8 +32,8 @@ loop-again c = search needs
 returns : tie.Need-returns Inv-loop μ-loop
 returns c = search needs
 
-pub digest-spec : {M : Type 1} → statement M
-digest-spec =
+pub digest-after-spec : {M : Type 1} → statement M
+digest-after-spec =
     tie.close
     (tie.spec
     Inv-loop
