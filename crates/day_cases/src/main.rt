@@ -1,23 +1,28 @@
-// Plans a stream of sheets on standard input by the crate `planning`, for comparison with the plans of a second implementation. The payload is a sheet.
+// Plans a stream of sheets on standard input by the crates `planning` and `program`, for comparison with the plans of a
+// second implementation. The payload is a sheet.
 //
 // Operation T writes what the program writes for the sheet, as it is.
-// Operation O writes of the same `O number line length` and the digest of the whole lent buffer.
-// Operation D plans the sheet, both buffers lent: `D number line length`, the digest of the listing and that of the whole placing buffer.
+// Operation O writes of the same `O number line length`, and the digest of a filled buffer with it at the front.
+// Operation D plans the sheet, both buffers lent: `D number line length`, the digest of the listing and that of the
+// whole placing buffer.
 fn write_output(sheet: &[u8]) {
-    let mut room = [0u8; 32303];
-    let r = planning::answer(sheet, &mut room);
-    io::write_all(1, cases::first_part(&room, r.length));
+    let output = program::answer(sheet);
+    let bytes = output.bytes;
+    io::write_all(1, cases::first_part(&bytes, output.length));
 }
 
 fn digest_output(sheet: &[u8]) {
+    let planned = planning::plan_number(sheet);
+    let output = program::answer(sheet);
+    let bytes = output.bytes;
     let mut room = [0u8; 32303];
     cases::fill(&mut room);
-    let r = planning::answer(sheet, &mut room);
+    let front = cases::digest(cases::first_part(&bytes, output.length));
     io::write_all(1, b"O");
-    cases::word(r.number);
-    cases::word(r.line);
-    cases::size(r.length);
-    cases::word(cases::digest(&room));
+    cases::word(planned.number);
+    cases::word(planned.line);
+    cases::size(output.length);
+    cases::word(cases::digest_after(front, cases::second_part(&room, output.length)));
     cases::end_line();
 }
 

@@ -3,7 +3,7 @@ use planning::Planned;
 ghost use mathlib.Core.Path.{_≡_};
 ghost use mathlib.Core.Bool.{false, _||_};
 ghost use Rattle.sheet.specs.Sheet.{sheetOf};
-ghost use Rattle.planning.specs.Planning.{planRefusal, shortPlan, shortGrid, listedAnswer, unlistedAnswer, listingAfter, gridAfter, outputAnswer, outputAfter};
+ghost use Rattle.planning.specs.Planning.{planRefusal, shortPlan, shortGrid, listedAnswer, unlistedAnswer, listingAfter, gridAfter};
 
 // Plans a sheet, with a plan buffer lent.
 #[no_mangle]
@@ -39,13 +39,4 @@ pub extern "C" fn kiwimound_plan_number(b: &[u8]) -> Planned
     ensures { λ r. ⌜ r ≡ unlistedAnswer (planRefusal (now (b .entry)) false) ⌝ }
 {
     planning::plan_number(b)
-}
-
-// Writes what the program writes for a sheet: a listing, or the line of any other refusal.
-#[no_mangle]
-pub extern "C" fn kiwimound_answer(b: &[u8], out: &mut [u8]) -> Planned
-    ensures { λ r. ⌜ r ≡ outputAnswer (now (b .entry)) (shortPlan (now (out .entry))) ⌝ }
-    ensures { λ _. ⌜ now (out .exit) ≡ outputAfter (now (b .entry)) (shortPlan (now (out .entry))) (now (out .entry)) ⌝ }
-{
-    planning::answer(b, out)
 }

@@ -1,12 +1,10 @@
 // The planning calls and the comparison, for outsiders.
 //
-// What each answers to a sheet's bytes, and what it leaves in the buffers lent to it, is stated in specs/Planning.antt; demand 3 over what a call wrote is
-// specs/DemandThree.antt.
-mod answering;
+// What each answers to a sheet's bytes, and what it leaves in the buffers lent to it, is stated in specs/Planning.antt.
+// What is demanded of these answers is in the crate `demands`.
 mod calls;
 mod comparing;
 
-pub use answering::answer;
 pub use calls::plan;
 pub use calls::plan_both;
 pub use calls::plan_number;

@@ -1,9 +1,5 @@
--- `planner::main` meets its contract: what it writes is within the buffer. Assumes nothing.
-use mathlib.Core.Path.{sym, subst}
-use Prim.Native.Nat.{_≤_}
-use native.Mathlib.Omega.{arith}
-use Rattle.listing.specs.Sizes.{planBytes}
-use Rattle.planning.specs.OutputLaws.{length-outputAnswer}
+-- `planner::main` meets its contract: it writes no more bytes than the answer has. Assumes nothing.
+use Rattle.program.specs.OutputLaws.{output-within}
 use borrow.Author.Needs.{needs}
 use Rattle.planner.proofs.main.Statement.{statement}
 use Rattle.planner.proofs.main.Tie as tie
@@ -26,9 +22,6 @@ part-answer-start c = search needs
 part-answer-end : tie.Need-part-answer-end
 part-answer-end c = search needs
 
-slice-aggregate-answer : tie.Need-slice-aggregate-answer
-slice-aggregate-answer c = search needs
-
 answer-requires : tie.Need-answer-requires
 answer-requires c κs = search needs
 
@@ -39,7 +32,7 @@ part-write-all-start : tie.Need-part-write-all-start
 part-write-all-start c = search needs
 
 part-write-all-end : tie.Need-part-write-all-end
-part-write-all-end c = omega (arith, subst (λ r. r .length ≤ planBytes) (sym (c .before .before .answer .ensures .0)) (length-outputAnswer _ _))
+part-write-all-end c = output-within _ _ (c .before .before .answer .ensures)
 
 write-all-requires : tie.Need-write-all-requires
 write-all-requires c κs = search needs
@@ -57,7 +50,6 @@ main-spec =
     sub-answer
     part-answer-start
     part-answer-end
-    slice-aggregate-answer
     answer-requires
     sub-write-all
     part-write-all-start

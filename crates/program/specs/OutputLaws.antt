@@ -1,0 +1,118 @@
+-- How the program's output follows from a planning call's answer, and that it fits the plan buffer. Assumes nothing.
+use mathlib.Core.Path.{_≡_, refl, sym, ap, _∙_}
+use mathlib.Core.Bool.{Bool, true, false, cond, true≢false}
+use mathlib.Core.List.{List, [], _++_}
+use Prim.Native.Nat.{ℕ, zero, suc, _≤_}
+use native.Mathlib.Omega.{arith}
+use lib.ListN.{length, replicate, length-replicate}
+use Rattle.common.specs.ListLaws.{drop-replicate}
+use Rattle.sheet.specs.declared.Refusal.{Refusal}
+use Rattle.sheet.specs.Sheet.{sheetOf}
+use Rattle.sheet.specs.Checks.{faults}
+use Rattle.sheet.specs.Calls.{readingOf, padded, over}
+use Rattle.sheet.specs.CallLaws.{faults-readingOf}
+use Rattle.sheet.specs.ReadSteps.{length-padded}
+use Rattle.sheet.specs.WellFormedLaws.{wellFormed-faults}
+use Rattle.listing.specs.Sizes.{planBytes}
+use Rattle.listing.specs.Text.{refusalText}
+use Rattle.listing.specs.Opening.{Written, length-refusalText}
+use Rattle.planning.specs.declared.Planned.{Planned}
+use Rattle.planning.specs.Planning.{planRefusal, shortPlan, writes, listedAnswer, listingAfter, listingOf}
+use Rattle.planning.specs.NumberLaws.{number-read, silent-read}
+use Rattle.planning.specs.WrittenLaws.{shortPlan-long, length-listing}
+use Rattle.planning.specs.Refusals.{refusal-read}
+use Rattle.program.specs.declared.Output.{Output}
+use Rattle.program.specs.Program.{output, outputOf}
+
+-- the buffer before planning
+abbrev pub zeros : List ℕ
+zeros = replicate planBytes 0
+
+pub length-zeros : length zeros ≡ planBytes
+length-zeros = length-replicate {A = ℕ} planBytes 0
+
+-- a text at the front of zeros
+over-zeros : (text : List ℕ) → over text zeros ≡ padded planBytes text
+unfolding over padded
+over-zeros text = ap (λ l. text ++ l) (drop-replicate (length text) planBytes 0)
+
+as-output : (b text bytes : List ℕ) (n : ℕ) → text ≡ output b → bytes ≡ over text zeros → n ≡ length text → record { bytes = bytes; length = n } ≡ outputOf b
+unfolding outputOf
+as-output b text bytes n e w l = λ i. record { bytes = (w ∙ over-zeros text ∙ ap (padded planBytes) e) i; length = (l ∙ ap length e) i }
+
+-- what `plan` answered and left in the buffer
+module _
+    (b bytes : List ℕ) (p : Planned) (e : p ≡ listedAnswer (planRefusal b (shortPlan zeros)) (sheetOf b))
+    (w : bytes ≡ listingAfter (planRefusal b (shortPlan zeros)) (sheetOf b) zeros) where
+  abbrev f : Refusal
+  f = planRefusal b false
+
+  room : shortPlan zeros ≡ false
+  room = shortPlan-long zeros (omega (arith, length-zeros))
+
+  answered : p ≡ listedAnswer f (sheetOf b)
+  answered = e ∙ ap (λ x. listedAnswer (planRefusal b x) (sheetOf b)) room
+
+  after : bytes ≡ listingAfter f (sheetOf b) zeros
+  after = w ∙ ap (λ x. listingAfter (planRefusal b x) (sheetOf b) zeros) room
+
+  number-is : p .number ≡ f .number
+  unfolding listedAnswer
+  number-is = ap (λ x. x .number) answered
+
+  line-is : p .line ≡ f .line
+  unfolding listedAnswer
+  line-is = ap (λ x. x .line) answered
+
+  -- a listing was written
+  pub output-listed : writes (p .number) ≡ true → record { bytes = bytes; length = p .length } ≡ outputOf b
+  unfolding listedAnswer listingAfter output
+  output-listed l = as-output b (listingOf (sheetOf b)) bytes (p .length) (rw k) (after ∙ rw k) (ap (λ x. x .length) answered ∙ rw k)
+    where
+      k : writes (f .number) ≡ true
+      k = ap writes (sym number-is) ∙ l
+
+  -- nothing was written, and then a refusal's text
+  pub output-refused : writes (p .number) ≡ false → {last : List ℕ} {n : ℕ} → Written (refusalText (p .number) (p .line)) bytes last n
+      → record { bytes = last; length = n } ≡ outputOf b
+  unfolding listingAfter output
+  output-refused l {last} {n} v = as-output b (refusalText (p .number) (p .line)) last n text (v .bytes ∙ ap (over (refusalText (p .number) (p .line))) kept) (v .size)
+    where
+      k : writes (f .number) ≡ false
+      k = ap writes (sym number-is) ∙ l
+
+      text : refusalText (p .number) (p .line) ≡ output b
+      text = ap (λ x. refusalText x (p .line)) number-is ∙ ap (refusalText (f .number)) line-is ∙ rw k
+
+      kept : bytes ≡ zeros
+      kept = after ∙ rw k
+
+-- Its length ----------------------------------------------------------------------------------
+
+-- a call that writes a listing has accepted the sheet
+accepted-writes : (b : List ℕ) → writes (planRefusal b false .number) ≡ true → faults b ≡ []
+accepted-writes b w = go (readingOf b .number) refl
+  where
+    go : (n : ℕ) → readingOf b .number ≡ n → faults b ≡ []
+    go zero e = faults-readingOf b e
+    go (suc n) e =
+        let k : readingOf b .number ≡ 0 → ⊥ = λ z. omega (arith, e, z) in
+        absurd (true≢false (sym w ∙ ap (λ r. writes (r .number)) (refusal-read b false refl k) ∙ silent-read _ k (number-read b refl k)))
+
+pub length-output : (b : List ℕ) → length (output b) ≤ planBytes
+unfolding output
+length-output b = go (writes (planRefusal b false .number)) refl
+  where
+    r : Refusal
+    r = planRefusal b false
+
+    go : (c : Bool) → writes (r .number) ≡ c → length (cond c (listingOf (sheetOf b)) (refusalText (r .number) (r .line))) ≤ planBytes
+    go true e = length-listing (sheetOf b) (wellFormed-faults b (accepted-writes b e) .values)
+    go false e = omega (arith, length-refusalText (r .number) (r .line))
+
+-- what `answer` gives is no longer than its bytes
+pub output-within : (b : List ℕ) (r : Output) → r ≡ outputOf b → r .length ≤ length (r .bytes)
+unfolding outputOf
+output-within b r e =
+    let h = length-output b in
+    omega (arith, ap (λ (x : Output). x .length) e, ap (λ (x : Output). length (x .bytes)) e, length-padded planBytes (output b) h)

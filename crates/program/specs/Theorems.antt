@@ -1,0 +1,75 @@
+-- The program's theorems: for a well-formed sheet it writes what a planning call writes, its output fits the plan
+-- buffer, an input longer than any sheet is refused, and a refusal's text is read back. Assumes nothing.
+use mathlib.Core.Path.{_≡_, refl, sym, subst}
+use mathlib.Core.Logic.{_⊎_, inl, inr}
+use mathlib.Core.Bool.{Bool, true, false, _||_}
+use mathlib.Core.List.{List, [], _∷_, List·Memᴰ, List·Memᴰ·cases-cons, List·Memᴰ·not-nil}
+use Prim.Native.Nat.{ℕ, _^_, _≤_, _<_}
+use native.Mathlib.Omega.{arith}
+use lib.Dec.{ltb}
+use lib.ListN.{length, take}
+use lib.Seq.{take-append-seam}
+use borrow.Author.Tests.{lt-ltb}
+use Rattle.sheet.specs.Limits.{width, lineBytes, maxBytes}
+use Rattle.sheet.specs.Sheet.{Sheet, sheetOf}
+use Rattle.sheet.specs.Checks.{firstRefusal, outside, lengthFaults, faults}
+use Rattle.sheet.specs.Calls.{padded}
+use Rattle.listing.specs.Sizes.{planBytes}
+use Rattle.listing.specs.Lines.{line}
+use Rattle.listing.specs.Text.{heldWord, refusalText}
+use Rattle.planning.specs.Planning.{canBePlanned, planRefusal, listedAnswer, listingAfter, writes}
+use Rattle.planning.specs.ReadListing.{written}
+use Rattle.planning.specs.ReadLaws.{FitsLine, FitLines}
+use Rattle.planning.specs.Theorems.{ReadsAs, reads-as}
+use Rattle.planning.specs.WrittenLaws.{number-planned, number-held, writes-planned, writes-held, listing-written}
+use Rattle.program.specs.Program.{output, outputOf}
+use Rattle.program.specs.OutputLaws.{length-output}
+
+module _ (b : List ℕ) (accepted : faults b ≡ []) where
+  abbrev s : Sheet
+  s = sheetOf b
+
+  -- For a well-formed sheet the output is what a planning call writes in any plan buffer.
+  pub program-writes : (buffer : List ℕ)
+      → output b ≡ written (listedAnswer (planRefusal b false) s) (listingAfter (planRefusal b false) s buffer)
+  unfolding output
+  program-writes buffer = go (canBePlanned s) refl
+    where
+      with-number : writes (planRefusal b false .number) ≡ true
+          → output b ≡ written (listedAnswer (planRefusal b false) s) (listingAfter (planRefusal b false) s buffer)
+      with-number w = rw w (sym (listing-written (planRefusal b false) s buffer w))
+
+      go : (c : Bool) → canBePlanned s ≡ c → output b ≡ written (listedAnswer (planRefusal b false) s) (listingAfter (planRefusal b false) s buffer)
+      go true e = with-number (writes-planned _ (number-planned b accepted false refl e))
+      go false e = with-number (writes-held _ (number-held b accepted false refl e))
+
+-- The program writes the first bytes of what `answer` gives, as many as its length says: they are the output.
+pub program-front : (b : List ℕ) → take (outputOf b .length) (outputOf b .bytes) ≡ output b
+unfolding outputOf padded
+program-front b = take-append-seam (output b) _
+
+-- The output fits the plan buffer, whatever the input is.
+pub program-length : (b : List ℕ) → length (output b) ≤ planBytes
+program-length b = length-output b
+
+-- An input longer than any sheet is refused by its length, whatever it holds: the program needs to read no more than
+-- one byte beyond the longest sheet.
+pub program-too-long : (b : List ℕ) → maxBytes < length b → output b ≡ refusalText 1 0
+unfolding output planRefusal faults lengthFaults outside firstRefusal writes
+program-too-long b l = rw (lt-ltb maxBytes (length b) l, or-true (ltb (length b) lineBytes))
+  where
+    or-true : (x : Bool) → (x || true) ≡ true
+    or-true true = refl
+    or-true false = refl
+
+-- A refusal's text is read back, as a listing is (`listing-read-back`).
+pub refusal-read-back : (number l : ℕ) → number < 10 ^ width → l < 10 ^ width → ReadsAs (refusalText number l) (line number l 0 0 ∷ [])
+unfolding refusalText
+refusal-read-back number l f g = reads-as (refusalText number l) heldWord (line number l 0 0 ∷ []) refl refl fit
+  where
+    fit : FitLines (line number l 0 0 ∷ [])
+    fit x i = only (List·Memᴰ·cases-cons i)
+      where
+        only : (x ≡ line number l 0 0) ⊎ List·Memᴰ x [] → FitsLine x
+        only (inl e) = subst FitsLine (sym e) (record { a = f; b = g; c = omega arith; d = omega arith })
+        only (inr k) = absurd (List·Memᴰ·not-nil k)
