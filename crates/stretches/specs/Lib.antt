@@ -5,6 +5,7 @@ pub mod Feedings
 pub mod Intervals
 pub mod Keeping
 pub mod SettledRuns
+pub mod Worded
 pub mod Slotwise
 pub mod FeedingResidual
 pub mod Settling
@@ -17,7 +18,7 @@ pub mod SettledRunsLaws
 pub mod KeepingLaws
 pub mod IntervalLaws
 pub mod StepLaws
-pub mod AsWorded
+pub mod WordedLaws
 pub mod LongestLaws
 pub mod RunLaws
 pub mod Cases

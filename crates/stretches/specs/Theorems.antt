@@ -13,7 +13,8 @@ use Rattle.stretches.specs.Intervals.{Interval, intervals, busyIn, Longe
 use Rattle.stretches.specs.Keeping.{Keeps, stretches, StretchesStop}
 use Rattle.stretches.specs.SettledRuns.{settledRuns, boundsAtTurn}
 use Rattle.stretches.specs.Slotwise.{keepAt, settleFrom, settleEach}
-use Rattle.stretches.specs.AsWorded.{settleAllWorded, settleAll-worded, day-least}
+use Rattle.stretches.specs.Worded.{settleAllWorded, runsWorded, boundsWorded}
+use Rattle.stretches.specs.WordedLaws.{settleAll-worded, runs-worded, day-least}
 use Rattle.stretches.specs.LongestLaws.{longest-passes, le-longest}
 use Rattle.stretches.specs.StepLaws.{possible-sound, tighter-sound, other-possible}
 use Rattle.stretches.specs.SlotwiseLaws.{keepFor-none, settle-slotwise}
@@ -35,6 +36,11 @@ day-high slots m t l = omega (arith, getD-replicate slots t m 0 l)
 -- The method with its idle step worded as in document 01, high set to k − 1, is this method on the bounds that a day begins with.
 pub settled-as-worded : (slots m : ℕ) (ds : List Demand) → settleAllWorded slots ds m (dayBounds slots m) ≡ settleAll slots ds m (dayBounds slots m)
 settled-as-worded slots m ds = settleAll-worded slots ds m (dayBounds slots m) (day-least slots ds m)
+
+-- The runs that it takes when it comes to a blower are the same, too.
+pub runs-as-worded : (slots m : ℕ) (ds : List Demand) (k : ℕ) → k ≤ m → let b = dayBounds slots m in
+    runsWorded slots ds k slots 1 (boundsWorded slots ds m k b) ≡ settledRuns slots ds k slots 1 (boundsAtTurn slots ds m k b)
+runs-as-worded slots m ds k l = runs-worded slots ds m k l
 
 module _ {slots : ℕ} {ds : List Demand} (w : Windows slots ds) {b : Bounds} (h : FeasibleDay slots ds b) where
   -- (a) A run that the method takes is possible, and it is the longest.

@@ -1,40 +1,24 @@
--- The method with its idle step worded as in document 01, high set to k − 1, settles the same as Method.antt, which takes the smaller of high and k − 1: no
--- high is below k where blower k has not come yet. Assumes nothing.
+-- The method as worded in document 01 (Worded.antt) settles the same as that of Method.antt: no high is below k where
+-- blower k has not come yet. Assumes nothing.
 use mathlib.Core.Path.{_≡_, refl, sym, ap, _∙_}
 use mathlib.Core.Logic.{_⊎_, inl, inr}
-use mathlib.Core.List.{List}
+use mathlib.Core.Bool.{Bool, true, false}
+use mathlib.Core.List.{List, _++_}
 use Prim.Native.Nat.{ℕ, zero, suc, _+_, _-_, min, _≤_, _<_}
 use native.Mathlib.Omega.{arith}
+use lib.Dec.{leb}
 use lib.ListN.{length, getD, length-replicate, getD-replicate}
 use lib.Seq.{ext-getD}
+use borrow.Author.Tests.{leb-true}
 use Rattle.placing.specs.Schedules.{Demand}
 use Rattle.stretches.specs.Method.{Bounds, dayBounds, onRun, idleFor, busyFor, longest, feasibleUnder, idleRun, busyRun, settle, settleAll}
+use Rattle.stretches.specs.Intervals.{Interval}
+use Rattle.stretches.specs.SettledRuns.{stretchOf, settledRuns, boundsAtTurn}
+use Rattle.stretches.specs.Worded.{idleSet, idleSetRun, settleWorded, settleAllWorded, runsWorded, boundsWorded}
 use Rattle.stretches.specs.RunLaws.{length-onRun, onRun-inside, onRun-before, onRun-after}
 use Rattle.stretches.specs.Cases.{le-or-lt}
 
--- The method as worded ----------------------------------------------------------
-
--- blower k idle for n slots from slot t on: high there set to k − 1
-unfoldable pub idleSet : ℕ → ℕ → Bounds → ℕ → Bounds
-idleSet k t b n = record { low = b .low; high = onRun t n (λ x. k - 1) (b .high) }
-
-module _ (slots : ℕ) (ds : List Demand) where
-  unfoldable pub idleSetRun : (k t : ℕ) → Bounds → ℕ
-  idleSetRun k t b = longest (λ n. feasibleUnder slots ds (idleSet k t b n)) (suc slots - t)
-
-  unfoldable pub settleWorded : (k turns t : ℕ) → Bounds → Bounds
-  settleWorded k zero t b = b
-  settleWorded k (suc turns) t b =
-      let i : ℕ = idleSetRun k t b in
-      let c : Bounds = idleSet k t b i in
-      let n : ℕ = busyRun slots ds k (t + i) c in
-      settleWorded k turns (t + i + n) (busyFor k (t + i) c n)
-
-  unfoldable pub settleAllWorded : ℕ → Bounds → Bounds
-  settleAllWorded zero b = b
-  settleAllWorded (suc k) b = settleAllWorded k (settleWorded (suc k) slots 1 b)
-
--- Its steps -------------------------------------------------------------------------
+-- One step -------------------------------------------------------------------------
 
 -- no entry from slot t on is below c
 abbrev AtLeast : ℕ → ℕ → List ℕ → Type 0
@@ -115,3 +99,56 @@ module _ (slots : ℕ) (ds : List Demand) where
 
   pub day-least : (m : ℕ) → AtLeast m 0 (dayBounds slots m .high)
   day-least m s l z = omega (arith, getD-replicate slots s m 0 (rw (length-replicate slots m) at l))
+
+  -- the runs ----------------------------------------------------------------------
+
+  runs-same : (k turns t : ℕ) (b : Bounds) → AtLeast (k - 1) t (b .high) → runsWorded slots ds k turns t b ≡ settledRuns slots ds k turns t b
+  unfolding runsWorded settledRuns busyFor
+  runs-same k zero t b h = refl
+  runs-same k (suc turns) t b h =
+      ap (λ i. next i (idleSet k t b i)) (run-same k t b h)
+      ∙ ap (next (idleRun slots ds k t b)) (idle-same k t (idleRun slots ds k t b) b h)
+      ∙ (let i : ℕ = idleRun slots ds k t b in
+      let c : Bounds = idleFor k t b i in
+      let n : ℕ = busyRun slots ds k (t + i) c in
+      ap (λ vs. stretchOf t i false ++ (stretchOf (t + i) n true ++ vs)) (runs-same k turns (t + i + n) (busyFor k (t + i) c n) (after-idle k t i n b (k - 1) h)))
+    where
+      next : ℕ → Bounds → List Interval
+      next i c =
+          let n : ℕ = busyRun slots ds k (t + i) c in
+          stretchOf t i false ++ (stretchOf (t + i) n true ++ runsWorded slots ds k turns (t + i + n) (busyFor k (t + i) c n))
+
+  -- the bounds at a turn, and that no high there is below k
+  turn-same : (m k : ℕ) (b : Bounds) → k ≤ m → AtLeast m 0 (b .high)
+      → (boundsWorded slots ds m k b ≡ boundsAtTurn slots ds m k b) × AtLeast k 0 (boundsAtTurn slots ds m k b .high)
+  unfolding boundsWorded boundsAtTurn
+  turn-same zero k b l h = (refl, λ s o z. omega (arith, h s o z))
+  turn-same (suc m) k b l h = go (leb k m) refl (turn-same m k (settle slots ds (suc m) slots 1 b))
+    where
+      c : Bounds
+      c = settle slots ds (suc m) slots 1 b
+
+      least : AtLeast (suc m - 1) 0 (b .high)
+      least s o z = omega (arith, h s o z)
+
+      worded : Bool → Bounds
+      worded true = boundsWorded slots ds m k (settleWorded slots ds (suc m) slots 1 b)
+      worded false = b
+
+      plain : Bool → Bounds
+      plain true = boundsAtTurn slots ds m k c
+      plain false = b
+
+      go : (x : Bool) → leb k m ≡ x
+          → (k ≤ m → AtLeast m 0 (c .high) → (boundsWorded slots ds m k c ≡ boundsAtTurn slots ds m k c) × AtLeast k 0 (boundsAtTurn slots ds m k c .high))
+          → (worded x ≡ plain x) × AtLeast k 0 (plain x .high)
+      go true e again =
+          let r = again (leb-true k m e) (λ s o z. omega (arith, settle-least (suc m) slots 1 b least s o z)) in
+          (ap (boundsWorded slots ds m k) (settle-same (suc m) slots 1 b (λ s o z. least s o (omega arith))) ∙ r .0, r .1)
+      go false e again = (refl, λ s o z. omega (arith, h s o z, l))
+
+  pub runs-worded : (m k : ℕ) → k ≤ m → let b = dayBounds slots m in
+      runsWorded slots ds k slots 1 (boundsWorded slots ds m k b) ≡ settledRuns slots ds k slots 1 (boundsAtTurn slots ds m k b)
+  runs-worded m k l =
+      let r = turn-same m k (dayBounds slots m) l (day-least m) in
+      ap (runsWorded slots ds k slots 1) (r .0) ∙ runs-same k slots 1 _ (λ s o z. omega (arith, r .1 s o (omega arith)))
