@@ -50,11 +50,11 @@ module _ (s : Sheet) where
 -- A day that is planned -----------------------------------------------------------------
 
 module _ (s : Sheet) (can : canBePlanned s ≡ true) where
-  possible : FeasibleDay (s .slots) (demandsOf s) (dayBounds (s .slots) (s .blowers))
+  pub possible : FeasibleDay (s .slots) (demandsOf s) (dayBounds (s .slots) (s .blowers))
   unfolding canBePlanned noLow fullHigh
   possible = day-possible (s .slots) (s .blowers) (demandsOf s) can
 
-  high : (t : ℕ) → t < s .slots → getD (dayBounds (s .slots) (s .blowers) .high) t 0 ≤ s .blowers
+  pub high : (t : ℕ) → t < s .slots → getD (dayBounds (s .slots) (s .blowers) .high) t 0 ≤ s .blowers
   high = day-high (s .slots) (s .blowers)
 
   pub length-countsOf : length (countsOf s) ≡ s .slots

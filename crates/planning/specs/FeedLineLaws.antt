@@ -20,7 +20,7 @@ use Rattle.placing.specs.ListLaws.{in-flatMap, in-keep}
 use Rattle.placing.specs.DemandLaws.{noJob}
 use Rattle.listing.specs.Lines.{Line, partAt, fedIn, feedLine, slotLines, feedLines, membersFrom}
 use Rattle.planning.specs.ReadListing.{slotSet, inSlot, ofTank, isOf, ofMeal, placingOn}
-use Rattle.planning.specs.ListLaws.{in-range, flatMap-range-cong, flatMap-range-one, keep-all, keep-none, keep-flatMap, map-flatMap, in-zipWith}
+use Rattle.planning.specs.ListLaws.{in-range, flatMap-range-cong, flatMap-range-one, keep-all, keep-none, keep-flatMap, map-flatMap, in-zipWith, at-zipWith}
 use Rattle.listing.specs.FeedLaws.{count-take, count-take-le}
 use Rattle.listing.specs.LengthLaws.{length-flatMap-range}
 use Rattle.planning.specs.SlotSetLaws.{slotSet-members, membersFrom-slots}
@@ -139,12 +139,19 @@ module _ (slots : ℕ) (tanks : List ℕ) (p : Schedule) (long : length tanks �
         w .4,
       )
 
-  pub feedLine-in-day : (l : Line) → List·Memᴰ l lines → (1 ≤ l .a) × (l .a ≤ slots) × List·Memᴰ (l .c) tanks
-  unfolding feedLine
-  feedLine-in-day l i =
-      let r = in-feedLines l i in
-      let e = ap (λ (x : Line). x .a) (r .7) in
-      (omega arith, omega (arith, r .3), Memᴰ·cast (ap (λ (x : Line). x .c) (r .7)) (r .6))
+  -- it is a line of one of the meals
+  pub of-some-meal : (jobs : List Job) → OwnLines jobs tanks p → (l : Line) → List·Memᴰ l lines → (i : ℕ) × (i < length p) × (isOf (getD jobs i noJob) (l .a) (l .c) ≡ true)
+  unfolding feedLines slotLines fedIn feedLine
+  of-some-meal jobs apart l m =
+      let u = in-flatMap (λ t. slotLines t (rationRows tanks p)) (range 0 slots) m in
+      let t = u .0 in
+      let w = in-zipWith (feedLine t) (range 1 (length (fedIn t (rationRows tanks p)))) (fedIn t (rationRows tanks p)) (u .2) in
+      let f = in-keep (λ r. has (r .1) t) (rationRows tanks p) (w .3) in
+      let z = at-zipWith (λ a c. (a, c)) 0 [] tanks p (f .0) in
+      let fed : has (getD p (z .0) []) t ≡ true = sym (ap (λ (r : ℕ × Slots). has (r .1) t) (z .3)) ∙ f .1 in
+      let slot : l .a ≡ suc t = ap (λ (x : Line). x .a) (w .4) in
+      let tank : l .c ≡ getD tanks (z .0) 0 = ap (λ (x : Line). x .c) (w .4) ∙ ap (λ (r : ℕ × Slots). r .0) (z .3) in
+      (z .0, z .2, ap₂ (isOf (getD jobs (z .0) noJob)) slot tank ∙ apart .own (z .0) t (z .2) fed)
 
   -- by meal
   module _ (jobs : List Job) (apart : OwnLines jobs tanks p) (i : ℕ) (l : i < length p) where

@@ -109,3 +109,16 @@ module _ {A B C : Type 0} (f : A → B → C) where
           → (a : A) × (b : B) × List·Memᴰ a (x ∷ xs) × List·Memᴰ b (y ∷ ys) × (c ≡ f a b)
       go (inl e) ih = (x, y, List·Memᴰ·head refl, List·Memᴰ·head refl, e)
       go (inr i) ih = let r = ih i in (r .0, r .1, List·Memᴰ·tail (r .2), List·Memᴰ·tail (r .3), r .4)
+
+  -- the same by place
+  pub at-zipWith : {c : C} (a : A) (b : B) (xs : List A) (ys : List B) → List·Memᴰ c (zipWith f xs ys)
+      → (i : ℕ) × (i < length xs) × (i < length ys) × (c ≡ f (getD xs i a) (getD ys i b))
+  at-zipWith a b [] ys m = absurd (List·Memᴰ·not-nil m)
+  at-zipWith a b (x ∷ xs) [] m = absurd (List·Memᴰ·not-nil m)
+  at-zipWith {c} a b (x ∷ xs) (y ∷ ys) m = go (List·Memᴰ·cases-cons m) (at-zipWith a b xs ys)
+    where
+      go : (c ≡ f x y) ⊎ List·Memᴰ c (zipWith f xs ys)
+          → (List·Memᴰ c (zipWith f xs ys) → (i : ℕ) × (i < length xs) × (i < length ys) × (c ≡ f (getD xs i a) (getD ys i b)))
+          → (i : ℕ) × (i < length (x ∷ xs)) × (i < length (y ∷ ys)) × (c ≡ f (getD (x ∷ xs) i a) (getD (y ∷ ys) i b))
+      go (inl e) ih = (zero, omega arith, omega arith, e)
+      go (inr i) ih = let r = ih i in (suc (r .0), omega (arith, r .1), omega (arith, r .2), r .3)

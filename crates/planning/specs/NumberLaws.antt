@@ -66,7 +66,7 @@ of-form : (b : List ℕ) → OfSheet (formFaults b)
 unfolding formFaults
 of-form b = of-fault 2 (firstFaulty b 0 (lineCount b)) (ltb 0 (firstFaulty b 0 (lineCount b))) (λ e. omega arith)
 
-of-faults : (b : List ℕ) → OfSheet (faults b)
+pub of-faults : (b : List ℕ) → OfSheet (faults b)
 unfolding faults
 of-faults b = of-append _ _ (of-length b) (of-append _ _ (of-form b) (of-values (sheetOf b) _ _))
 

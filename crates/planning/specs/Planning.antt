@@ -19,7 +19,7 @@ use Rattle.planning.specs.declared.Planned.{Planned}
 use Rattle.planning.specs.declared.Compared.{Compared}
 use Rattle.listing.specs.Sizes.{planBytes, gridBytes}
 use Rattle.listing.specs.Lines.{Plan}
-use Rattle.listing.specs.Text.{planText, heldText, refusalText, gridOf}
+use Rattle.listing.specs.Text.{planText, heldText, gridOf}
 
 -- The day of a sheet ----------------------------------------------------------
 
@@ -114,19 +114,3 @@ unfoldable pub comparedOf : List ℕ → List ℕ → Compared
 comparedOf a b =
     let r : Refusal = compareRefusal a b in
     record { number = r .number; line = r .line; same = eqb (r .number) 0 && sameDay (sheetOf a) (sheetOf b) }
-
--- The program -----------------------------------------------------------------
-
--- its whole output for its input: the listing, or the refusal
-unfoldable pub output : List ℕ → List ℕ
-output b = let r : Refusal = planRefusal b false in cond (writes (r .number)) (listingOf (sheetOf b)) (refusalText (r .number) (r .line))
-
--- what the call `answer` gives: number and line as planning does, and the length of the output, which a buffer that is too short does not take
-unfoldable pub outputAnswer : List ℕ → Bool → Planned
-outputAnswer b short =
-    let r : Refusal = planRefusal b short in
-    record { number = r .number; line = r .line; length = cond short 0 (length (output b)) }
-
--- the buffer afterwards: bytes after the output keep their values
-unfoldable pub outputAfter : List ℕ → Bool → List ℕ → List ℕ
-outputAfter b short old = cond short old (over (output b) old)

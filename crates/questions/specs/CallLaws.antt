@@ -1,6 +1,5 @@
--- What the calls' answers say: the range of a shortfall, and that yes stands for a sound placing. Assumes nothing.
+-- The range of a shortfall that is answered. Assumes nothing.
 use mathlib.Core.Path.{_≡_, refl, _∙_}
-use mathlib.Core.Logic.{_↔_}
 use mathlib.Core.Bool.{Bool, true, false, cond}
 use mathlib.Core.List.{List, []}
 use Prim.Native.Nat.{ℕ}
@@ -9,19 +8,15 @@ use lib.Dec.{eqb}
 use lib.IntN.{pos, negsuc}
 use lib.ListN.{length, length-replicate, getD-replicate}
 use lib.Signed.{_≤ℤ_, leZ-yes}
-use borrow.Author.Tests.{eqb-true, eq-eqb}
+use borrow.Author.Tests.{eqb-true}
 use Rattle.sheet.specs.Sheet.{sheetOf}
-use Rattle.sheet.specs.Checks.{fault, firstRefusal, faults}
+use Rattle.sheet.specs.Checks.{fault, faults}
 use Rattle.sheet.specs.FaultLaws.{numbered-append, numbered-faults, numbered-fault, append-nil-parts, false-fault}
-use Rattle.placing.specs.Schedules.{Schedule, Sound}
-use Rattle.placing.specs.Demands.{demandsOf, fullHigh}
-use Rattle.questions.specs.Calls.{marked, marksFault, marksRefusal, sheetShortfall, shortfallOf, boundsFault, boundsRefusal, cutHighs, sheetFeasible, boundsOf}
-use Rattle.placing.specs.Theorems.{feasible-iff-sound, shortfall-of-day}
-use Rattle.placing.specs.DemandLaws.{accepted-inRange, accepted-blowers, windows-demandsOf}
+use Rattle.placing.specs.Demands.{fullHigh}
+use Rattle.questions.specs.Calls.{marked, marksFault, marksRefusal, sheetShortfall, shortfallOf}
+use Rattle.placing.specs.Theorems.{shortfall-of-day}
+use Rattle.placing.specs.DemandLaws.{accepted-inRange, accepted-blowers}
 use Rattle.questions.specs.CountLaws.{accepted-long, length-marked}
-use Rattle.questions.specs.BoundsSteps.{length-cutHighs}
-
--- shortfall -------------------------------------------------------------------
 
 -- number 0 stands for a sheet without a fault and one mark for each slot
 unrefused : (b marks : List ℕ) → marksRefusal b marks .number ≡ 0 → (faults b ≡ []) × (length marks ≡ sheetOf b .slots)
@@ -50,14 +45,3 @@ shortfallOf-range b marks = go (eqb (marksRefusal b marks .number) 0) refl
         → (negsuc 767 ≤ℤ cond t (sheetShortfall (sheetOf b) marks) (pos 0)) × (cond t (sheetShortfall (sheetOf b) marks) (pos 0) ≤ℤ pos 6144)
     go true e = let h = unrefused b marks (eqb-true (marksRefusal b marks .number) 0 e) in sheetShortfall-range b marks (h .0) (h .1)
     go false e = (leZ-yes tt, leZ-yes tt)
-
--- bounds ----------------------------------------------------------------------
-
--- of a sheet without a fault and lists that are D long, yes exactly where a sound placing exists
-pub bounds-iff-sound : (b lows highs : List ℕ) → faults b ≡ [] → length lows ≡ sheetOf b .slots → length highs ≡ sheetOf b .slots
-    → (boundsOf b lows highs .yes ≡ true)
-    ↔ ((p : Schedule) × Sound (sheetOf b .slots) (demandsOf (sheetOf b)) lows (cutHighs (sheetOf b .blowers) highs) p)
-unfolding boundsOf boundsRefusal boundsFault sheetFeasible firstRefusal
-bounds-iff-sound b lows highs e l h =
-    rw (e, eq-eqb (length lows) (sheetOf b .slots) l, eq-eqb (length highs) (sheetOf b .slots) h)
-    (feasible-iff-sound (windows-demandsOf (sheetOf b)) lows (cutHighs (sheetOf b .blowers) highs) l (length-cutHighs (sheetOf b .blowers) highs ∙ h))

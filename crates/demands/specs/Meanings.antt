@@ -1,5 +1,5 @@
--- Whoever says `unfolding listings` has every definition computed that leads from a sheet's bytes to its listing and back from a listing to its lines:
--- for tables of days. Assumes nothing.
+-- Whoever says `unfolding listings` has every definition computed that leads from a sheet's bytes to its listing and
+-- back from a listing to its lines: for tables of days. Assumes nothing.
 use Rattle.sheet.specs.Field.{leading, columns, writeField}
 use Rattle.sheet.specs.Sheet.{writeLine}
 use Rattle.sheet.specs.Calls.{padded}
@@ -11,8 +11,9 @@ use Rattle.energy.specs.Energy.{atEnd, state, onIn, onSlots, startAt, startsFro
 use Rattle.bill.specs.Bill.{rates, hourOf, rateOf, onRate, onCharge, startCharge, chargeFrom, blowerCharge, listed, listedFor, charge, centsOf, amountOf}
 use Rattle.listing.specs.Lines.{stretchLine, blowerLines, stretchLines, partAt, fedIn, feedLine, slotLines, feedLines, billLine, planLines, membersFrom, memberLines, heldLines}
 use Rattle.listing.specs.Text.{writeLines, planText, heldText, refusalText}
-use Rattle.planning.specs.Planning.{canBePlanned, countsOf, feedingsOf, planOf, shownSet, listingOf, heldFaults, planRefusal, writes, output}
+use Rattle.planning.specs.Planning.{canBePlanned, countsOf, feedingsOf, planOf, shownSet, listingOf, heldFaults, planRefusal, writes}
 use Rattle.planning.specs.ReadListing.{lineIn, linesOf, headLine, stretchPart, feedPart, billOn}
+use Rattle.program.specs.Program.{output}
 
 -- the method, feedings, stretches, energy and the charge
 unfoldable pub plans : Unit {0}

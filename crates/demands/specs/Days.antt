@@ -1,5 +1,6 @@
--- The days of 'Days at the edge' as one table: a question about a sheet's text, beside what document 01 says, and requests 101 and 103 where they change
--- that. `answer` gives the answer of the definitions; a plan's numbers are read off the program's whole output. Assumes nothing.
+-- The days of 'Days at the edge' as one table: a question about a sheet's text, beside what document 01 says, and
+-- requests 101 to 103 where they change that. `answer` gives the answer of the definitions; a plan's numbers are read
+-- off the program's whole output. Assumes nothing.
 use mathlib.Core.Path.{_≡_, refl}
 use mathlib.Core.Bool.{Bool, false}
 use mathlib.Core.List.{List, [], _∷_, map}
@@ -11,9 +12,10 @@ use Rattle.sheet.specs.Calls.{tankLines, lookUp}
 use Rattle.questions.specs.Text.{text}
 use Rattle.questions.specs.Calls.{shortfallOf, boundsOf}
 use Rattle.listing.specs.Lines.{Line, line}
-use Rattle.planning.specs.Planning.{countsOf, output}
+use Rattle.planning.specs.Planning.{countsOf}
 use Rattle.planning.specs.ReadListing.{linesOf, headLine, stretchPart, feedPart, billOn}
-use Rattle.planning.specs.Meanings.{listings}
+use Rattle.program.specs.Program.{output}
+use Rattle.demands.specs.Meanings.{listings}
 
 -- Questions and answers -------------------------------------------------------------
 
@@ -171,15 +173,15 @@ starredDays =
     ∷ day (energyFor endsOff) (number 4)
     ∷ []
 
--- every starred day is as document 01 says, and requests 101 and 103 where they change that
+-- every starred day is as document 01 says, and requests 101 to 103 where they change that
 pub starred-days-as-stated : AsStated starredDays
 unfolding listings
 starred-days-as-stated = refl
 
 -- Days that are not starred -----------------------------------------------------------
 
--- the refused heads, and two days that settle orders which the starred days leave open: blowers from m down and not from 1 up, and feedings slot by
--- slot and not ration by ration
+-- the refused heads, and two days that settle orders which the starred days leave open: blowers from m down and not
+-- from 1 up, and feedings slot by slot and not ration by ration
 abbrev pub otherDays : List Day
 otherDays =
     day (outputFor ("   97    1    0    0" ∷ [])) (bytes (text ("HELD" ∷ "    3    1    0    0" ∷ [])))
@@ -191,8 +193,8 @@ otherDays =
     -- request 103: a day without an on slot, and one slot with the greatest wake cost
     ∷ day (billFor idleLong) (lines (line 0 0 0 0 ∷ []))
     ∷ day (billFor oneSlot) (lines (line 3 62 0 0 ∷ []))
-    -- request 102: both meals are fed, their parts counted within each; a meal that begins in the last slot of the one before; the order 7, 8, 9, 13 on a line;
-    -- the lines of a tank
+    -- request 102: both meals are fed, their parts counted within each; a meal that begins in the last slot of the one
+    -- before; the order 7, 8, 9, 13 on a line; the lines of a tank
     ∷ day (feedingsFor meals) (lines (line 2 1 5 1 ∷ line 3 1 5 1 ∷ line 4 1 9 1 ∷ []))
     ∷ day (outputFor mealsMeet) (bytes (text ("HELD" ∷ "   13    3    0    0" ∷ [])))
     ∷ day (outputFor ("    4    1    1    2" ∷ "    5    1    2    1" ∷ "    5    2    2    2" ∷ [])) (bytes (text ("HELD" ∷ "    9    3    0    0" ∷ [])))
