@@ -10,7 +10,7 @@
  *
  * Numbers: 0 is accepted. Any other is the refusal below, the first that applies in the order of the list, in which 7, 8, 9 and 13 go line by line; `line`
  * is the line of the sheet that it names, from 1; 0 where it names none. Every number but 0 and 12 changes no lent byte, and every further field of the
- * answer is then 0; kiwimound_answer alone writes the refusal too.
+ * answer is then 0.
  */
 #ifndef KIWIMOUND_H
 #define KIWIMOUND_H
@@ -159,11 +159,6 @@ kiwimound_planned kiwimound_plan_both(const uint8_t *sheet, size_t sheet_length,
 
 /* Plans a sheet for its number alone: refusals 1 to 9 and 13, then 12, `length` 0. Changes nothing. */
 kiwimound_planned kiwimound_plan_number(const uint8_t *sheet, size_t sheet_length);
-
-/* Writes what the program writes for a sheet, at the front of `out`: the listing of the plan or of the held sheet, or for any other refusal `HELD` and one
- * line of its number, its line, 0, 0. Number and line are those of kiwimound_plan, `length` is that of what was written. Only where `out` is shorter than
- * KIWIMOUND_LISTING_BYTES nothing is written; the number is then the sheet's own refusal or 10. */
-kiwimound_planned kiwimound_answer(const uint8_t *sheet, size_t sheet_length, uint8_t *out, size_t out_length);
 
 /* Whether two sheets have the same day: as many slots, and as many feedings in each. Refusals 1 to 9 and 13, then 12, all of the first sheet's before the
  * second's; the answer does not say which sheet was at fault. Changes nothing. */

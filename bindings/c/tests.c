@@ -221,8 +221,6 @@ static void test_meals(void)
     const kiwimound_written w = kiwimound_write(4, 1, 1, 2, numbers, 8, listing, 0);
     EXPECT(w.number == KIWIMOUND_BAD_MEAL && w.line == 3 && w.length == 0);
     EXPECT(kept(listing, sizeof listing, 0) && kept(placing, sizeof placing, 0));
-    p = kiwimound_answer(LEND(BAD_MEAL), listing, sizeof listing);
-    EXPECT(p.number == KIWIMOUND_BAD_MEAL && p.line == 3 && is_listing(p, "HELD\n   13    3    0    0\n"));
 }
 
 static void test_shortfall(void)
@@ -363,22 +361,6 @@ static void test_refused(void)
     EXPECT(kept(listing, sizeof listing, 0) && kept(placing, sizeof placing, 0));
 }
 
-/* The program's output: the refusal's line is written too, but not to a buffer that is too short. */
-static void test_answer(void)
-{
-    guard();
-    kiwimound_planned p = kiwimound_answer(LEND(FOUR_SLOTS), listing, sizeof listing);
-    EXPECT(p.number == 0 && p.line == 0 && is_listing(p, FOUR_SLOTS_PLAN));
-    guard();
-    p = kiwimound_answer(LEND(BAD_WINDOW), listing, sizeof listing);
-    EXPECT(p.number == KIWIMOUND_BAD_WINDOW && p.line == 3 && is_listing(p, "HELD\n    8    3    0    0\n"));
-    guard();
-    p = kiwimound_answer(LEND(BAD_WINDOW), listing, KIWIMOUND_LISTING_BYTES - 1);
-    EXPECT(p.number == KIWIMOUND_BAD_WINDOW && p.line == 3 && p.length == 0 && kept(listing, sizeof listing, 0));
-    p = kiwimound_answer(LEND(HELD), listing, KIWIMOUND_LISTING_BYTES - 1);
-    EXPECT(p.number == KIWIMOUND_SHORT_BUFFER && p.line == 0 && p.length == 0 && kept(listing, sizeof listing, 0));
-}
-
 static void test_compare(void)
 {
     kiwimound_compared c = kiwimound_compare(LEND(ONE_FEEDING), LEND(LAST_SLOT));
@@ -449,7 +431,6 @@ int main(void)
     test_bill();
     test_held();
     test_refused();
-    test_answer();
     test_compare();
     test_records();
     printf(failures == 0 ? "tests.c: ok\n" : "tests.c: FAILED\n");

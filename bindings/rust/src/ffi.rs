@@ -104,12 +104,6 @@ mod calls {
             placing_length: usize,
         ) -> Planned;
         pub fn kiwimound_plan_number(sheet: *const u8, length: usize) -> Planned;
-        pub fn kiwimound_answer(
-            sheet: *const u8,
-            length: usize,
-            out: *mut u8,
-            out_length: usize,
-        ) -> Planned;
         pub fn kiwimound_compare(
             first: *const u8,
             first_length: usize,
@@ -197,16 +191,6 @@ pub fn plan(sheet: &[u8]) -> Day {
 
 pub fn plan_number(sheet: &[u8]) -> Planned {
     unsafe { calls::kiwimound_plan_number(sheet.as_ptr(), sheet.len()) }
-}
-
-/// What the program writes for these bytes.
-pub fn answer(sheet: &[u8]) -> Vec<u8> {
-    let mut out = vec![0; LISTING_BYTES];
-    let planned = unsafe {
-        calls::kiwimound_answer(sheet.as_ptr(), sheet.len(), out.as_mut_ptr(), out.len())
-    };
-    out.truncate(planned.length);
-    out
 }
 
 pub fn compare(first: &[u8], second: &[u8]) -> Compared {

@@ -31,12 +31,3 @@ mod sheet;
 pub use plan::{Feeding, Held, Plan, State, Stretch};
 pub use refusal::{Fault, Refusal};
 pub use sheet::{Bounds, Comparison, Head, Ration, Sheet};
-
-/// What the program writes for any bytes: the listing of a plan or of a held sheet, or the line of any other refusal.
-///
-/// ```
-/// assert_eq!(kiwimound::output(b""), b"HELD\n    1    0    0    0\n");
-/// ```
-pub fn output(bytes: &[u8]) -> Vec<u8> {
-    ffi::answer(bytes)
-}
