@@ -19,7 +19,7 @@ struct outcome {
     uint32_t number, energy, cents, stretches, feeds, shown;
 };
 
-/* The planning calls, answer, compare, shortfall and bounds, and those on records. `choice` picks the sizes lent. */
+/* The planning calls, compare, shortfall and bounds, and those on records. `choice` picks the sizes lent. */
 struct outcome check_planning(const uint8_t *sheet, size_t size, uint32_t choice);
 
 /* Planning and the questions on the rations of an accepted sheet as records, or on changed ones as `choice` says; with a plan buffer and a placing buffer of

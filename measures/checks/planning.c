@@ -138,19 +138,6 @@ static void check_questions(const uint8_t *sheet, size_t size, const kiwimound_r
     take_back(HIGHS, 4 * r->slots);
 }
 
-/* The program's output: the listing where there is one, else the refusal; nothing in a buffer that is too short. */
-static void check_answer(const uint8_t *sheet, size_t size, size_t lent, kiwimound_planned planned, const uint8_t *listing) {
-    char refusal[64];
-    size_t length = planned.length;
-    if (!length && lent >= KIWIMOUND_LISTING_BYTES)
-        length = (size_t)snprintf(refusal, sizeof refusal, "HELD\n%5u%5u%5u%5u\n", planned.number, planned.line, 0u, 0u);
-    uint8_t *out = lend_buffer(OUT, lent);
-    kiwimound_planned a = kiwimound_answer(sheet, size, out, lent);
-    if (a.number != planned.number || a.line != planned.line || a.length != length) fail("answer gives another number");
-    if (memcmp(out, planned.length ? listing : (const uint8_t *)refusal, length)) fail("answer writes otherwise");
-    take_back(OUT, length);
-}
-
 /* A buffer of no byte, one too short, just long enough or longer. */
 static size_t size_of(size_t least, uint32_t choice) {
     size_t sizes[] = {least, least - 1, least + choice / 4 % 50, 0};
@@ -208,7 +195,6 @@ struct outcome check_planning(const uint8_t *bytes, size_t size, uint32_t choice
     /* On a planned sheet any slots may be marked. */
     for (uint32_t t = 0; number == 0 && t < r.slots; t++) marks[t] = choice >> t % 32 & 1;
     if (planned && expected == number) check_questions(sheet, size, &r, outcome, listing, marks, counts);
-    check_answer(sheet, size, one, p, listing);
     take_back(LISTING, p.length);
     if (r.number == 0) check_records(&r, choice, one, other);
 

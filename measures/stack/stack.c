@@ -26,7 +26,6 @@ static void plan(void) { kiwimound_plan(sheet, size, listing, sizeof listing); }
 static void plan_placing(void) { kiwimound_plan_placing(sheet, size, placing, sizeof placing); }
 static void plan_both(void) { kiwimound_plan_both(sheet, size, listing, sizeof listing, placing, sizeof placing); }
 static void plan_number(void) { kiwimound_plan_number(sheet, size); }
-static void answer(void) { kiwimound_answer(sheet, size, listing, sizeof listing); }
 static void compare(void) { kiwimound_compare(sheet, size, sheet, size); }
 static void shortfall(void) { kiwimound_shortfall(sheet, size, marks, reading.slots); }
 static void bounds(void) { kiwimound_bounds(sheet, size, lows, reading.slots, highs, reading.slots); }
@@ -52,7 +51,6 @@ static struct {
     {"plan_placing", plan_placing, 0},
     {"plan_both", plan_both, 0},
     {"plan_number", plan_number, 0},
-    {"answer", answer, 0},
     {"compare", compare, 0},
     {"shortfall", shortfall, 0},
     {"bounds", bounds, 0},

@@ -1,7 +1,7 @@
 //! What document 01 asks of every call on a day, from the reference implementation.
 
 use crate::values::Values;
-use reference::listing::{held_text, plan_text, refusal_text, PLACING_BUFFER, PLAN_BUFFER};
+use reference::listing::{held_text, plan_text, PLACING_BUFFER, PLAN_BUFFER};
 use reference::sheet::{read, write, Refusal, Sheet, LINE, MOST_SLOTS};
 use reference::{method, placing};
 
@@ -12,8 +12,8 @@ pub struct Expected {
     pub sheet: Result<Sheet, Refusal>,
     /// Number 0 or 12 of a well-formed sheet.
     pub number: u32,
-    /// What the program writes: a listing, or the line of a refusal.
-    pub output: Vec<u8>,
+    /// That of the plan or of the held sheet.
+    pub listing: Vec<u8>,
     pub placing: Vec<u8>,
     /// Each slot's count, of a planned sheet.
     pub counts: Option<Vec<u32>>,
@@ -43,20 +43,16 @@ impl Expected {
             bytes,
             sheet,
             number: 0,
-            output: Vec::new(),
+            listing: Vec::new(),
             placing: vec![0; PLACING_BUFFER],
             counts: None,
         };
-        let sheet = match &expected.sheet {
-            Ok(sheet) => sheet,
-            Err(refusal) => {
-                expected.output = refusal_text(*refusal);
-                return expected;
-            }
+        let Ok(sheet) = &expected.sheet else {
+            return expected;
         };
         match method::plan(sheet) {
             Ok(plan) => {
-                expected.output = plan_text(&plan);
+                expected.listing = plan_text(&plan);
                 for (i, row) in plan.placing.iter().enumerate() {
                     for (t, &fed) in row.iter().enumerate() {
                         expected.placing[i * MOST_SLOTS as usize + t] = u8::from(fed);
@@ -66,7 +62,7 @@ impl Expected {
             }
             Err(shown) => {
                 expected.number = 12;
-                expected.output = held_text(sheet, &shown);
+                expected.listing = held_text(sheet, &shown);
             }
         }
         expected

@@ -20,15 +20,6 @@ pub fn check_sheet(e: &Expected, draws: &mut Draws, b: &mut Buffers) -> Checked 
         same("plan_placing", numbers, (number, line, 0))?;
         holds("plan_placing", &mut b.placing, placing)?;
     }
-    for size in sizes(PLAN_BUFFER, draws) {
-        let (number, line) = e.planning(Some(size), None);
-        // Unlike planning, this call writes every refusal but that of its own buffer.
-        let output: &[u8] = if size < PLAN_BUFFER { &[] } else { &e.output };
-        let answer = library::answer(&e.bytes, b.listing.lend(size));
-        let numbers = (answer.number, answer.line, answer.length);
-        same("answer", numbers, (number, line, output.len()))?;
-        holds("answer", &mut b.listing, output)?;
-    }
     let (number, line) = e.planning(None, None);
     let answer = library::plan_number(&e.bytes);
     let numbers = (answer.number, answer.line, answer.length);
@@ -49,7 +40,7 @@ pub fn check_plan(e: &Expected, form: Form, draws: &mut Draws, b: &mut Buffers) 
     let placings = sizes(PLACING_BUFFER, draws);
     for size in listings {
         let (number, line) = e.planning(Some(size), None);
-        let listing: &[u8] = if is_planned(number) { &e.output } else { &[] };
+        let listing: &[u8] = if is_planned(number) { &e.listing } else { &[] };
         let answer = form.plan(b.listing.lend(size));
         let numbers = (answer.number, answer.line, answer.length);
         same("plan", numbers, (number, line, listing.len()))?;
@@ -69,7 +60,7 @@ pub fn check_plan(e: &Expected, form: Form, draws: &mut Draws, b: &mut Buffers) 
             let other = placings[(i + shift) % 4];
             let (number, line) = e.planning(Some(one), Some(other));
             let (listing, placing): (&[u8], &[u8]) = match is_planned(number) {
-                true => (&e.output, &e.placing),
+                true => (&e.listing, &e.placing),
                 false => (&[], &[]),
             };
             let answer = form.plan_both(b.listing.lend(one), b.placing.lend(other));

@@ -72,7 +72,6 @@ extern "C" {
         placing_size: usize,
     ) -> Planned;
     pub fn kiwimound_plan_number(b: *const u8, n: usize) -> Planned;
-    pub fn kiwimound_answer(b: *const u8, n: usize, out: *mut u8, size: usize) -> Planned;
     pub fn kiwimound_compare(a: *const u8, m: usize, b: *const u8, n: usize) -> Compared;
     pub fn kiwimound_shortfall(
         b: *const u8,

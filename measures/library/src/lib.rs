@@ -34,12 +34,6 @@ pub fn plan_number(sheet: &[u8]) -> Planned {
     unsafe { foreign::kiwimound_plan_number(sheet.as_ptr(), sheet.len()) }
 }
 
-/// Writes what the program writes for a sheet.
-pub fn answer(sheet: &[u8], out: &mut [u8]) -> Planned {
-    let (buffer, size) = (out.as_mut_ptr(), out.len());
-    unsafe { foreign::kiwimound_answer(sheet.as_ptr(), sheet.len(), buffer, size) }
-}
-
 /// Compares the days of two sheets.
 pub fn compare(one: &[u8], other: &[u8]) -> Compared {
     unsafe { foreign::kiwimound_compare(one.as_ptr(), one.len(), other.as_ptr(), other.len()) }
