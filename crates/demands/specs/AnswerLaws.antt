@@ -9,7 +9,7 @@ use lib.Dec.{eqb, ltb}
 use lib.IntN.{ℤ, pos}
 use lib.ListN.{length, drop, replicate, length-replicate}
 use lib.Seq.{take-append-seam, drop-append-seam}
-use borrow.Author.Tests.{eq-eqb, ne-eqb, eqb-true, ltb-false}
+use borrow.Author.Tests.{eq-eqb, ne-eqb, eqb-true, ltb-false, not-false}
 use Rattle.common.specs.Tests.{or-false}
 use Rattle.sheet.specs.declared.Refusal.{Refusal}
 use Rattle.sheet.specs.Limits.{lineBytes}
@@ -203,10 +203,6 @@ no-unless n x h = rw (ne-eqb n 0 h)
 pub shortfall-is : (s : Sheet) (marks : List ℕ) (n : ℕ) → n ≡ 0 → ShortfallOf s marks (cond (eqb n 0) (sheetShortfall s marks) (pos 0))
 unfolding sheetShortfall
 shortfall-is s marks n e = rw (eq-eqb n 0 e)
-
-not-false : (x : Bool) → not x ≡ false → x ≡ true
-not-false true e = refl
-not-false false e = sym e
 
 pub yes-for : {own : List Refusal} {s : Sheet} → OwnChecks own s → (lows highs : List ℕ) → let n = firstRefusal (own ++ fault 11 0 (boundsFault (s .slots) lows highs)) .number in
     n ≡ 0 → YesFor s lows highs (eqb n 0 && sheetFeasible s lows highs)

@@ -7,7 +7,6 @@ use Prim.Native.Nat.{ℕ, suc, _+_, _≤_}
 use native.Mathlib.Omega.{arith}
 use lib.ListN.{length, getD, take, drop}
 use lib.Seq.{take-at, take-append-seam, drop-append-seam, getD-append-add}
-use borrow.Author.Tests.{le-ltb}
 use Rattle.sheet.specs.declared.Refusal.{Refusal}
 use Rattle.sheet.specs.Sheet.{Sheet, sheetOf}
 use Rattle.sheet.specs.Checks.{firstRefusal, faults}
@@ -19,24 +18,14 @@ use Rattle.placing.specs.CriticalLaws.{length-criticalSet}
 use Rattle.placing.specs.DemandLaws.{windows-demandsOf}
 use Rattle.energy.specs.Energy.{starts, energy}
 use Rattle.bill.specs.Bill.{charge}
-use Rattle.listing.specs.Sizes.{wordBytes, planBytes, gridBytes}
+use Rattle.listing.specs.Sizes.{wordBytes, planBytes}
 use Rattle.listing.specs.Lines.{Line, line, stretchLines, feedLines, billLine, planLines, heldLines}
 use Rattle.listing.specs.Text.{writeLines, planWord, heldWord, planText, heldText, gridOf}
-use Rattle.planning.specs.Planning.{canBePlanned, countsOf, feedingsOf, planOf, shownSet, listingOf, gridFor, heldFaults, planRefusal, shortPlan, shortGrid, writes, listedAnswer, listingAfter, gridAfter}
+use Rattle.planning.specs.Planning.{canBePlanned, countsOf, feedingsOf, planOf, shownSet, listingOf, gridFor, heldFaults, planRefusal, writes, listedAnswer, listingAfter, gridAfter}
 use Rattle.planning.specs.ReadListing.{tanks, linesOf, headLine, stretchPart, feedPart, billOn}
 use Rattle.planning.specs.ReadLaws.{linesOf-written}
 use Rattle.planning.specs.DayLaws.{length-fullHigh}
 use Rattle.planning.specs.FitLaws.{fit-planLines, fit-heldLines, length-planText, length-heldText}
-
--- Buffers that are long enough --------------------------------------------------------
-
-pub shortPlan-long : (listing : List ℕ) → planBytes ≤ length listing → shortPlan listing ≡ false
-unfolding shortPlan
-shortPlan-long listing l = le-ltb (length listing) planBytes l
-
-pub shortGrid-long : (grid : List ℕ) → gridBytes ≤ length grid → shortGrid grid ≡ false
-unfolding shortGrid
-shortGrid-long grid l = le-ltb (length grid) gridBytes l
 
 -- The refusal -------------------------------------------------------------------------
 

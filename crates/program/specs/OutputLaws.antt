@@ -19,7 +19,8 @@ use Rattle.listing.specs.Opening.{Written, length-refusalText}
 use Rattle.planning.specs.declared.Planned.{Planned}
 use Rattle.planning.specs.Planning.{planRefusal, shortPlan, writes, listedAnswer, listingAfter, listingOf}
 use Rattle.planning.specs.NumberLaws.{number-read, silent-read}
-use Rattle.planning.specs.WrittenLaws.{shortPlan-long, length-listing}
+use Rattle.planning.specs.CallAnswers.{room-plan}
+use Rattle.planning.specs.WrittenLaws.{length-listing}
 use Rattle.planning.specs.Refusals.{refusal-read}
 use Rattle.program.specs.declared.Output.{Output}
 use Rattle.program.specs.Program.{output, outputOf}
@@ -48,7 +49,7 @@ module _
   f = planRefusal b false
 
   room : shortPlan zeros ≡ false
-  room = shortPlan-long zeros (omega (arith, length-zeros))
+  room = room-plan zeros (omega (arith, length-zeros))
 
   answered : p ≡ listedAnswer f (sheetOf b)
   answered = e ∙ ap (λ x. listedAnswer (planRefusal b x) (sheetOf b)) room
