@@ -1,22 +1,20 @@
--- What each public call answers, and what it leaves in a lent buffer. Assumes nothing.
+-- What each public call answers, and what it leaves in a lent buffer. Definitions only.
 use mathlib.Core.Bool.{cond}
-use mathlib.Core.List.{List, [], _++_}
-use Prim.Native.Nat.{ℕ, zero, suc, _+_, _-_, _*_}
+use mathlib.Core.List.{List}
+use Prim.Native.Nat.{ℕ, suc, _*_}
 use lib.Dec.{ltb, eqb}
-use lib.ListN.{length, drop, replicate}
-use Rattle.sheet.specs.declared.Refusal.{Refusal}
+use lib.ListN.{length, replicate}
+use Rattle.common.specs.Buffers.{over, padded}
+use Rattle.line.specs.Layout.{lineBytes, fields}
+use Rattle.checks.specs.declared.Refusal.{Refusal}
 use Rattle.sheet.specs.declared.Reading.{Reading}
 use Rattle.sheet.specs.declared.Written.{Written}
-use Rattle.sheet.specs.declared.Part.{Part}
-use Rattle.sheet.specs.Limits.{lineBytes, maxRations, fields}
-use Rattle.sheet.specs.Sheet.{Sheet, lineCount, lineAt, valueAt, sheetOf, writeSheet, numbersOf, jobsOf}
-use Rattle.sheet.specs.Checks.{fault, firstRefusal, valueFaults, faults}
+use Rattle.checks.specs.Limits.{maxRations}
+use Rattle.checks.specs.Sheet.{Sheet, sheetOf, writeSheet, numbersOf}
+use Rattle.checks.specs.Checks.{firstRefusal, faults, flatFaults}
+use Rattle.checks.specs.CallChecks.{writeChecks}
 
 -- read -----------------------------------------------------------------------
-
--- numbers in a list of fixed length: 0 past their end
-unfoldable pub padded : ℕ → List ℕ → List ℕ
-padded n xs = xs ++ replicate (n - length xs) 0
 
 -- number 0, line 0, and the sheet's numbers
 unfoldable pub accepted : Sheet → Reading
@@ -44,23 +42,23 @@ refused r =
       numbers = replicate (fields * maxRations) 0;
     }
 
+-- what is read where these checks are made of this sheet
+unfoldable pub readingFrom : List Refusal → Sheet → Reading
+readingFrom own s = cond (eqb (firstRefusal own .number) 0) (accepted s) (refused (firstRefusal own))
+
+-- of a sheet's bytes
 unfoldable pub readingOf : List ℕ → Reading
-readingOf b = cond (eqb (firstRefusal (faults b) .number) 0) (accepted (sheetOf b)) (refused (firstRefusal (faults b)))
+readingOf b = readingFrom (faults b) (sheetOf b)
 
 -- write ----------------------------------------------------------------------
 
--- 3 to 9, 13 and 10: the values, then the buffer's size; the flat numbers are those of n rations or disagree with it
+-- the values of flat numbers, then 10, the buffer's size
 unfoldable pub writeRefusal : Sheet → ℕ → List ℕ → ℕ → Refusal
-writeRefusal s n numbers size =
-    firstRefusal (valueFaults s n (eqb (fields * n) (length numbers)) ++ fault 10 0 (ltb size (lineBytes * suc n)))
+writeRefusal s n numbers size = firstRefusal (writeChecks (flatFaults s n numbers) (ltb size (lineBytes * suc n)))
 
--- the sheet of head numbers and flat rations
-unfoldable pub sheetFrom : ℕ → ℕ → ℕ → List ℕ → Sheet
-sheetFrom slots blowers wake numbers = record { slots = slots; blowers = blowers; wake = wake; jobs = jobsOf numbers }
-
--- new bytes at the front of a lent buffer; the bytes after them keep their values
-unfoldable pub over : List ℕ → List ℕ → List ℕ
-over new old = new ++ drop (length new) old
+-- the checks of the sheet alone, then 10
+unfoldable pub writeRefusalFor : List Refusal → Sheet → ℕ → Refusal
+writeRefusalFor own s size = firstRefusal (writeChecks own (ltb size (lineBytes * suc (length (s .jobs)))))
 
 unfoldable pub writtenOf : Refusal → Sheet → Written
 writtenOf r s =
@@ -68,31 +66,3 @@ writtenOf r s =
 
 unfoldable pub bufferAfter : Refusal → Sheet → List ℕ → List ℕ
 bufferAfter r s old = cond (eqb (r .number) 0) (over (writeSheet s) old) old
-
--- find -----------------------------------------------------------------------
-
--- of n lines from line i on, those whose first field is the tank, one after the other
-unfoldable pub tankLines : List ℕ → ℕ → ℕ → ℕ → List ℕ
-tankLines b tank i zero = []
-tankLines b tank i (suc n) = cond (eqb (valueAt (lineAt b i) 0) tank) (lineAt b i) [] ++ tankLines b tank (suc i) n
-
--- all lines of the tank; nothing where the sheet is refused or has no such tank
-unfoldable pub lookUp : List ℕ → ℕ → List ℕ
-lookUp b tank = cond (eqb (firstRefusal (faults b) .number) 0) (tankLines b tank 1 (lineCount b - 1)) []
-
--- the first of n lines from line i on whose first field is the tank; the line after them where there is none
-unfoldable pub firstLine : List ℕ → ℕ → ℕ → ℕ → ℕ
-firstLine b tank i zero = i
-firstLine b tank i (suc n) = cond (eqb (valueAt (lineAt b i) 0) tank) i (firstLine b tank (suc i) n)
-
--- where these lines are in the sheet: they are one part of it; 0 and 0 where there is none
-unfoldable pub placeOf : List ℕ → ℕ → Part
-placeOf b tank =
-    cond (eqb (length (lookUp b tank)) 0)
-    (record { start = 0; length = 0 })
-    (record { start = lineBytes * firstLine b tank 1 (lineCount b - 1); length = length (lookUp b tank) })
-
--- where byte i of a slice is in memory: in the object in which the slice begins, i bytes further on; a place in memory
--- is an object and how many of its bytes come before
-unfoldable pub byteFrom : ℕ × ℕ → ℕ → ℕ × ℕ
-byteFrom begin i = (begin .0, begin .1 + i)

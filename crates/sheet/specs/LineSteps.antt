@@ -9,13 +9,14 @@ use lib.Dec.{eqb}
 use lib.ListN.{length, getD, take, drop, set, length-drop}
 use lib.Seq.{take-add, take-take, drop-at, drop-drop, length-take-le, getD-take, getD-drop}
 use borrow.Author.Tests.{eq-eqb, ne-eqb}
-use Rattle.sheet.specs.Limits.{width, fields, lineBytes, newline}
-use Rattle.sheet.specs.Field.{parse, numberOf, isFaulty, writeField}
-use Rattle.sheet.specs.FieldLaws.{length-writeField}
-use Rattle.sheet.specs.Sheet.{lineAt, fieldAt, valueAt, faultyFrom, faultyLine, writeLine}
-use Rattle.sheet.specs.Checks.{firstFaulty}
-use Rattle.sheet.specs.Parts.{putAt, numbersAt}
-use Rattle.sheet.specs.PutLaws.{putAt-append, set-putAt, length-putAt}
+use Rattle.common.specs.Buffers.{putAt}
+use Rattle.common.specs.BufferLaws.{putAt-append, set-putAt, length-putAt}
+use Rattle.line.specs.Layout.{width, fields, lineBytes, newline}
+use Rattle.line.specs.Field.{parse, numberOf, isFaulty}
+use Rattle.line.specs.Line.{fieldAt, valueAt, faultyFrom, faultyLine}
+use Rattle.checks.specs.Sheet.{lineAt}
+use Rattle.checks.specs.Checks.{firstFaulty}
+use Rattle.sheet.specs.Parts.{numbersAt}
 
 -- ---- places in the sheet
 
@@ -112,43 +113,6 @@ module _ (s : List ℕ) (i n : ℕ) where
 
     pub first-miss : faultyLine (lineAt s i) ≡ false → firstFaulty s i (n - i) ≡ firstFaulty s (i + 1) (n - (i + 1))
     first-miss e = first-next ∙ ap (λ b. cond b (i + 1) (firstFaulty s (i + 1) (n - (i + 1)))) e
-
--- ---- a line that is written
-
-pub put-line : (at a b c d : ℕ) (old o₁ o₂ o₃ o₄ : List ℕ) → at + lineBytes ≤ length old
-    → o₁ ≡ putAt at (writeField a) old → o₂ ≡ putAt (at + width) (writeField b) o₁ → o₃ ≡ putAt (at + width * 2) (writeField c) o₂
-    → o₄ ≡ putAt (at + width * 3) (writeField d) o₃ → set o₄ (at + width * fields) newline ≡ putAt at (writeLine a b c d) old
-unfolding writeLine
-put-line at a b c d old o₁ o₂ o₃ o₄ h p₁ p₂ p₃ p₄ =
-    set-putAt (at + width * fields) newline o₄ (omega (arith, l₄)) ∙ ap (putAt (at + width * fields) (newline ∷ [])) p₄
-    ∙ join (width * 3) (writeField d) (newline ∷ []) o₃ (length-writeField d) (omega (arith, l₃))
-    ∙ ap (putAt (at + width * 3) (writeField d ++ (newline ∷ []))) p₃
-    ∙ join (width * 2) (writeField c) (writeField d ++ (newline ∷ [])) o₂ (length-writeField c) (omega (arith, l₂))
-    ∙ ap (putAt (at + width * 2) (writeField c ++ (writeField d ++ (newline ∷ [])))) p₂
-    ∙ putAt-next (at + width) (writeField b) (writeField c ++ (writeField d ++ (newline ∷ []))) o₁ (at + width * 2) (length-writeField b) (omega arith) (omega (arith, l₁))
-    ∙ ap (putAt (at + width) (writeField b ++ (writeField c ++ (writeField d ++ (newline ∷ []))))) p₁
-    ∙ putAt-append at width (writeField a) (writeField b ++ (writeField c ++ (writeField d ++ (newline ∷ [])))) old (length-writeField a) (omega arith)
-  where
-    putAt-next : (from : ℕ) (x y o : List ℕ) (to : ℕ) → length x ≡ width → to ≡ from + width → from + width ≤ length o → putAt to y (putAt from x o) ≡ putAt from (x ++ y) o
-    putAt-next from x y o to e t k = ap (λ n. putAt n y (putAt from x o)) t ∙ putAt-append from width x y o e k
-
-    join : (k : ℕ) (x y o : List ℕ) → length x ≡ width → (at + k) + width ≤ length o → putAt (at + (k + width)) y (putAt (at + k) x o) ≡ putAt (at + k) (x ++ y) o
-    join k x y o e b = putAt-next (at + k) x y o (at + (k + width)) e (omega arith) b
-
-    keeps : (from v : ℕ) (o o′ : List ℕ) → o′ ≡ putAt from (writeField v) o → from + width ≤ length o → length o′ ≡ length o
-    keeps from v o o′ p k = ap length p ∙ length-putAt from (writeField v) o (rw (length-writeField v) k)
-
-    l₁ : length o₁ ≡ length old
-    l₁ = keeps at a old o₁ p₁ (omega arith)
-
-    l₂ : length o₂ ≡ length old
-    l₂ = keeps (at + width) b o₁ o₂ p₂ (omega (arith, l₁)) ∙ l₁
-
-    l₃ : length o₃ ≡ length old
-    l₃ = keeps (at + width * 2) c o₂ o₃ p₃ (omega (arith, l₂)) ∙ l₂
-
-    l₄ : length o₄ ≡ length old
-    l₄ = keeps (at + width * 3) d o₃ o₄ p₄ (omega (arith, l₃)) ∙ l₃
 
 -- ---- four numbers that are put
 

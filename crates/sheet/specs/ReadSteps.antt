@@ -6,22 +6,27 @@ use Prim.Native.Nat.{ℕ, zero, suc, _+_, _-_, _*_, _/_, _%_, _≤_, _<_}
 use native.Mathlib.Numerals.{add-one}
 use native.Mathlib.Omega.{arith}
 use lib.Dec.{ltb, eqb}
-use lib.ListN.{length, take, drop, replicate, length-append, length-replicate, length-map}
+use lib.ListN.{length, take, drop, replicate, length-map}
 use lib.Seq.{take-at, drop-append-add}
 use borrow.Author.Tests.{lt-ltb, le-ltb, eq-eqb, ne-eqb, eqb-true}
 use Rattle.common.specs.Lists.{range}
 use Rattle.common.specs.ListLaws.{range-snoc, flatMap-append, drop-replicate}
-use Rattle.sheet.specs.declared.Refusal.{Refusal}
-use Rattle.sheet.specs.Limits.{fields, lineBytes, maxBytes, maxRations}
-use Rattle.sheet.specs.Sheet.{lineCount, lineAt, valueAt, jobAt, sheetOf, faultyLine, numbersOf, jobsOf}
-use Rattle.sheet.specs.Checks.{firstRefusal, outside, lengthFaults, firstFaulty, formFaults, headFaults, jobsFaults, valueFaults, faults}
-use Rattle.sheet.specs.Calls.{padded, accepted, refused, readingOf}
-use Rattle.sheet.specs.NumbersLaws.{length-numbersOf, jobsOf-numbersOf}
-use Rattle.sheet.specs.SheetLaws.{length-jobs-sheetOf}
-use Rattle.sheet.specs.FaultLaws.{Numbered, numbered-fault, numbered-before, numbered-headFaults}
-use Rattle.sheet.specs.RangeLaws.{HeadInRange, inRange-headFaults}
-use Rattle.sheet.specs.Parts.{FormChecked, putAt, numbersAt, head}
-use Rattle.sheet.specs.CheckSteps.{first-left, first-right}
+use Rattle.common.specs.Buffers.{padded, putAt}
+use Rattle.line.specs.Layout.{fields, lineBytes}
+use Rattle.line.specs.Line.{valueAt, faultyLine}
+use Rattle.checks.specs.declared.Refusal.{Refusal}
+use Rattle.checks.specs.Limits.{maxBytes, maxRations}
+use Rattle.checks.specs.Refusals.{badLength, badForm}
+use Rattle.checks.specs.Sheet.{Sheet, lineCount, lineAt, jobAt, sheetOf, numbersOf, jobsOf}
+use Rattle.checks.specs.Checks.{firstRefusal, outside, lengthFaults, firstFaulty, formFaults, headFaults, jobsFaults, valueFaults, faults}
+use Rattle.sheet.specs.Calls.{accepted, refused, readingFrom, readingOf}
+use Rattle.checks.specs.NumbersLaws.{length-numbersOf, jobsOf-numbersOf}
+use Rattle.checks.specs.SheetLaws.{length-jobs-sheetOf}
+use Rattle.checks.specs.FaultLaws.{Numbered, numbered-fault, numbered-before, numbered-headFaults}
+use Rattle.checks.specs.RangeLaws.{HeadInRange, inRange-headFaults}
+use Rattle.sheet.specs.Parts.{FormChecked, numbersAt}
+use Rattle.checks.specs.Parts.{head}
+use Rattle.checks.specs.CheckSteps.{first-left, first-right}
 
 -- ---- 1 and 2
 
@@ -35,12 +40,12 @@ firstFaulty-le b i (suc n) = go (faultyLine (lineAt b i)) (firstFaulty-le b (suc
     go false h = omega arith
 
 module _ (b : List ℕ) where
-  pub form-short : length b < lineBytes → FormChecked b (record { number = 1; line = 0 })
+  pub form-short : length b < lineBytes → FormChecked b (record { number = badLength; line = 0 })
   unfolding firstRefusal lengthFaults outside
   form-short h = record { answer = rw (lt-ltb (length b) lineBytes h); least = λ e. absurd (omega arith); most = λ e. absurd (omega arith) }
 
   module _ (h : lineBytes ≤ length b) where
-    pub form-long : maxBytes < length b → FormChecked b (record { number = 1; line = 0 })
+    pub form-long : maxBytes < length b → FormChecked b (record { number = badLength; line = 0 })
     unfolding firstRefusal lengthFaults outside
     form-long k =
         record {
@@ -50,7 +55,7 @@ module _ (b : List ℕ) where
         }
 
     module _ (k : length b ≤ maxBytes) where
-      pub form-odd : (length b % lineBytes ≡ 0 → ⊥) → FormChecked b (record { number = 1; line = 0 })
+      pub form-odd : (length b % lineBytes ≡ 0 → ⊥) → FormChecked b (record { number = badLength; line = 0 })
       unfolding firstRefusal lengthFaults outside
       form-odd n =
           record {
@@ -69,7 +74,7 @@ module _ (b : List ℕ) where
               most = λ _. k;
             }
 
-        pub form-faulty : (line ≡ 0 → ⊥) → FormChecked b (record { number = 2; line = line })
+        pub form-faulty : (line ≡ 0 → ⊥) → FormChecked b (record { number = badForm; line = line })
         unfolding firstRefusal lengthFaults formFaults outside lineCount
         form-faulty n =
             record {
@@ -92,10 +97,6 @@ length-filled b n = length-numbersOf (map (jobAt b) (range 1 n)) ∙ ap (λ k. f
     length-range : (i k : ℕ) → length (range i k) ≡ k
     length-range i zero = refl
     length-range i (suc k) = ap suc (length-range (suc i) k)
-
-pub length-padded : (n : ℕ) (xs : List ℕ) → length xs ≤ n → length (padded n xs) ≡ n
-unfolding padded
-length-padded n xs h = simp (length-append, length-replicate) (omega arith)
 
 pub fill-begin : (b : List ℕ) → replicate (fields * maxRations) 0 ≡ padded (fields * maxRations) (filled b 0)
 unfolding padded numbersOf
@@ -137,20 +138,32 @@ take-padded b n = take-at (filled b n) _ (fields * n) (length-filled b n)
 -- ---- the answer
 
 -- number and line of the first refusal decide the answer
-pub answer-refused : (b : List ℕ) (r : Refusal) → r ≡ firstRefusal (faults b) → (r .number ≡ 0 → ⊥) → refused r ≡ readingOf b
-unfolding readingOf
-answer-refused b r e n = rw (← e, ne-eqb (r .number) 0 n)
+pub from-refused : (own : List Refusal) (s : Sheet) (r : Refusal) → r ≡ firstRefusal own → (r .number ≡ 0 → ⊥)
+    → refused r ≡ readingFrom own s
+unfolding readingFrom
+from-refused own s r e n = rw (← e, ne-eqb (r .number) 0 n)
 
-pub answer-accepted : (b : List ℕ) → firstRefusal (faults b) .number ≡ 0 → accepted (sheetOf b) ≡ readingOf b
+pub from-accepted : (own : List Refusal) (s : Sheet) → firstRefusal own .number ≡ 0 → accepted s ≡ readingFrom own s
+unfolding readingFrom
+from-accepted own s e = rw (eq-eqb (firstRefusal own .number) 0 e)
+
+-- of a sheet's bytes
+answer-refused : (b : List ℕ) (r : Refusal) → r ≡ firstRefusal (faults b) → (r .number ≡ 0 → ⊥)
+    → refused r ≡ readingOf b
 unfolding readingOf
-answer-accepted b e = rw (eq-eqb (firstRefusal (faults b) .number) 0 e)
+answer-refused b r e n = from-refused (faults b) (sheetOf b) r e n
+
+answer-accepted : (b : List ℕ) → firstRefusal (faults b) .number ≡ 0 → accepted (sheetOf b) ≡ readingOf b
+unfolding readingOf
+answer-accepted b e = from-accepted (faults b) (sheetOf b) e
 
 module _ (b : List ℕ) where
   numbered-form : Numbered (lengthFaults b ++ formFaults b)
   unfolding lengthFaults formFaults
   numbered-form =
-      numbered-before 1 0 (outside lineBytes maxBytes (length b) || not (eqb (length b % lineBytes) 0)) (omega arith)
-      (numbered-fault 2 (firstFaulty b 0 (lineCount b)) (ltb 0 (firstFaulty b 0 (lineCount b))) (omega arith))
+      numbered-before badLength 0 (outside lineBytes maxBytes (length b) || not (eqb (length b % lineBytes) 0))
+      (omega arith)
+      (numbered-fault badForm (firstFaulty b 0 (lineCount b)) (ltb 0 (firstFaulty b 0 (lineCount b))) (omega arith))
 
   abbrev announced : ℕ
   announced = valueAt (lineAt b 0) 3

@@ -1,27 +1,24 @@
 -- The sheet layer's theorems, about the definitions that the calls' promises are equations with. Assumes nothing.
-use mathlib.Core.Path.{_≡_, refl, sym, ap, ap₂, subst, subst₂, _∙_}
+use mathlib.Core.Path.{_≡_, sym, ap, ap₂, subst, subst₂, _∙_}
 use mathlib.Core.Bool.{true}
 use mathlib.Core.List.{List, []}
-use Prim.Native.Nat.{ℕ, _+_, _-_, _*_, _≤_, _<_}
+use Prim.Native.Nat.{ℕ, _≤_, _<_}
 use native.Mathlib.Omega.{arith}
 use lib.ListN.{length, getD, take}
 use borrow.Author.Tests.{eq-eqb}
-use Rattle.common.specs.Lists.{part}
-use Rattle.sheet.specs.Limits.{lineBytes}
-use Rattle.sheet.specs.declared.Refusal.{Refusal}
+use Rattle.common.specs.Buffers.{over}
+use Rattle.common.specs.BufferLaws.{take-over}
+use Rattle.checks.specs.declared.Refusal.{Refusal}
 use Rattle.sheet.specs.declared.Reading.{Reading}
-use Rattle.sheet.specs.Sheet.{Job, Sheet, lineCount, lineAt, valueAt, sheetOf, writeSheet}
-use Rattle.sheet.specs.Checks.{valueFaults, faults}
-use Rattle.sheet.specs.Calls.{accepted, readingOf, writeRefusal, sheetFrom, writtenOf, bufferAfter, over, lookUp, firstLine, placeOf}
-use Rattle.sheet.specs.SheetLaws.{sheetOf-writeSheet, length-writeSheet}
-use Rattle.sheet.specs.RangeLaws.{inRange-valueFaults, fits-inRange, meals-follow}
-use Rattle.sheet.specs.WellFormedLaws.{faults-wellFormed, wellFormed-faults, wellFormed-writeSheet, writeSheet-wellFormed, valueFaults-wellFormed}
-use Rattle.sheet.specs.NumbersLaws.{length-jobsOf, numbersOf-jobsOf}
+use Rattle.checks.specs.Sheet.{Job, Sheet, sheetOf, writeSheet, sheetFrom}
+use Rattle.checks.specs.Checks.{valueFaults, faults}
+use Rattle.sheet.specs.Calls.{accepted, readingOf, writeRefusal, writtenOf, bufferAfter}
+use Rattle.checks.specs.SheetLaws.{sheetOf-writeSheet, length-writeSheet}
+use Rattle.checks.specs.RangeLaws.{inRange-valueFaults, fits-inRange, meals-follow}
+use Rattle.checks.specs.WellFormedLaws.{faults-wellFormed, wellFormed-faults, wellFormed-writeSheet, writeSheet-wellFormed, valueFaults-wellFormed}
+use Rattle.checks.specs.NumbersLaws.{length-jobsOf, numbersOf-jobsOf}
 use Rattle.sheet.specs.WriteSteps.{write-accepted}
-use Rattle.sheet.specs.Parts.{lineAfter}
-use Rattle.sheet.specs.FindLaws.{AllHave, NoneHas, tankLines-none, tankLines-some}
-use Rattle.sheet.specs.FindSteps.{between, before-or-past, place-part}
-use Rattle.sheet.specs.CallLaws.{readingOf-accepted, faults-readingOf, rationsRead, rationsRead-accepted, take-over, sheetRead, sheetRead-accepted, refusalAgain, refusalAgain-accepted, lookUp-accepted, lookUp-refused, faults-lookUp, lookUp-none}
+use Rattle.sheet.specs.CallLaws.{readingOf-accepted, faults-readingOf, rationsRead, rationsRead-accepted, sheetRead, sheetRead-accepted, refusalAgain, refusalAgain-accepted}
 
 -- A sheet written from values that are all in range is accepted, ..
 pub written-accepted : (s : Sheet) → valueFaults s (length (s .jobs)) true ≡ [] → faults (writeSheet s) ≡ []
@@ -80,56 +77,7 @@ written-read-again slots blowers wake n numbers old e =
       rationsRead-accepted s ∙ numbersOf-jobsOf n numbers (sym (a .agrees)),
     )
 
--- A look-up gives all lines of the tank, as one part of the sheet: those from line f up to, not including, line a, the head line
--- being line 0. No other line has the tank (`AllHave` and `NoneHas`, of FindLaws, are over the same lines).
-pub record IsLinesOf (b : List ℕ) (tank f a : ℕ) : Type 0 where
-  pub first : 1 ≤ f
-  pub some : f < a
-  pub last : a ≤ lineCount b
-  pub all : AllHave b tank f a
-  pub before : NoneHas b tank 1 f
-  pub past : NoneHas b tank a (lineCount b)
-  pub lines : lookUp b tank ≡ part (lineBytes * f) (lineBytes * a) b
-
--- It does so where a line has the tank, ..
-pub find-lines : (b : List ℕ) (tank i : ℕ) → faults b ≡ [] → 1 ≤ i → i < lineCount b → valueAt (lineAt b i) 0 ≡ tank → (f : ℕ) × (a : ℕ) × IsLinesOf b tank f a
-find-lines b tank i e p q t =
-    let h = between b tank e _ _ refl refl in
-    let f = firstLine b tank 1 (lineCount b - 1) in
-    let a = lineAfter b tank f (lineCount b - f) in (
-      f,
-      a,
-      record {
-        first = h .least;
-        some = before-or-past b tank f a i h p q t;
-        last = h .most;
-        all = h .all;
-        before = h .before;
-        past = h .past;
-        lines = h .lines;
-      },
-    )
-
--- .. and nothing else: what is not empty is of a sheet without a fault, on which a line has the tank.
-pub find-only : (b : List ℕ) (tank : ℕ) → (lookUp b tank ≡ [] → ⊥) → (faults b ≡ []) × (i : ℕ) × (1 ≤ i) × (i < lineCount b) × (valueAt (lineAt b i) 0 ≡ tank)
-find-only b tank h =
-    let e = faults-lookUp b tank h in
-    let r = tankLines-some b tank 1 (lineCount b - 1) (λ z. h (lookUp-accepted b tank e ∙ z)) in
-    (e, r .0, r .1, omega (arith, r .2), r .3)
-
--- It is empty where no line has the tank, ..
-pub find-none : (b : List ℕ) (tank : ℕ) → ((i : ℕ) → 1 ≤ i → i < lineCount b → valueAt (lineAt b i) 0 ≡ tank → ⊥) → lookUp b tank ≡ []
-find-none b tank h = lookUp-none b tank (tankLines-none b tank 1 (lineCount b - 1) (λ k p q t. h k p (omega arith) t))
-
--- .. and where the sheet is refused.
-pub find-refused : (b : List ℕ) (tank : ℕ) → (faults b ≡ [] → ⊥) → lookUp b tank ≡ []
-find-refused b tank h = lookUp-refused b tank h
-
--- The place that is answered has these bytes.
-pub find-place : (b : List ℕ) (tank : ℕ) → part (placeOf b tank .start) (placeOf b tank .start + placeOf b tank .length) b ≡ lookUp b tank
-find-place = place-part
-
 -- The meals of one tank follow each other: the window of a later one begins after the last slot of an earlier one, so that no slot is in two of them.
 pub meals-apart : (s : Sheet) → valueFaults s (length (s .jobs)) true ≡ [] → (i k : ℕ) → i < k → k < length (s .jobs)
     → (d : Job) → getD (s .jobs) i d .tank ≡ getD (s .jobs) k d .tank → getD (s .jobs) i d .deadline < getD (s .jobs) k d .release
-meals-apart s e i k l m d = meals-follow (s .slots) 0 0 (s .jobs) (inRange-valueFaults s (length (s .jobs)) true e .jobs) i k l m d
+meals-apart s e i k l m d = meals-follow 1 (s .slots) 0 0 (s .jobs) (inRange-valueFaults s (length (s .jobs)) true e .jobs) i k l m d

@@ -1,28 +1,36 @@
--- How writing a sheet and looking a tank up go on. Assumes nothing.
+-- How writing a sheet goes on. Assumes nothing.
 use mathlib.Core.Path.{_≡_, refl, sym, ap, _∙_, subst}
 use mathlib.Core.Bool.{true}
-use mathlib.Core.List.{List, [], _∷_, _++_, append-assoc, append-nil}
+use mathlib.Core.List.{List, [], _∷_, _++_, append-nil}
 use Prim.Native.Nat.{ℕ, zero, suc, _+_, _-_, _*_, _≤_, _<_}
 use native.Mathlib.Omega.{arith}
 use lib.Dec.{ltb, eqb}
 use lib.ListN.{length, getD, take, drop, length-append, take-append-drop}
-use lib.Seq.{take-add, take-length, length-take-le}
+use lib.Seq.{take-add, length-take-le}
 use borrow.Author.Tests.{lt-ltb, le-ltb, ne-eqb, eqb-true, ltb-false}
 use Rattle.common.specs.Lists.{part, flatMap}
 use Rattle.common.specs.ListLaws.{part-cons, part-none, flatMap-append}
-use Rattle.sheet.specs.declared.Refusal.{Refusal}
-use Rattle.sheet.specs.Limits.{fields, lineBytes, maxRations}
-use Rattle.sheet.specs.Sheet.{Job, Sheet, writeLine, writeJob, writeSheet, jobsOf}
-use Rattle.sheet.specs.Checks.{fault, firstRefusal, headFaults, jobsFaults, valueFaults}
-use Rattle.sheet.specs.Calls.{writeRefusal, sheetFrom, over, writtenOf, bufferAfter}
-use Rattle.sheet.specs.NumbersLaws.{length-jobsOf}
-use Rattle.sheet.specs.LineLaws.{length-writeLine}
-use Rattle.sheet.specs.SheetLaws.{length-writeJob, length-writeSheet}
-use Rattle.sheet.specs.FaultLaws.{append-nil-parts, false-fault, numbered-append, numbered-fault, numbered-headFaults, numbered-jobsFaults, numbered-valueFaults}
-use Rattle.sheet.specs.RangeLaws.{HeadInRange, inRange-headFaults, inRange-valueFaults}
-use Rattle.sheet.specs.Parts.{putAt, head, job}
-use Rattle.sheet.specs.PutLaws.{putAt-append}
-use Rattle.sheet.specs.CheckSteps.{first-left, first-right}
+use Rattle.common.specs.Buffers.{over, putAt}
+use Rattle.common.specs.BufferLaws.{putAt-append, length-padded}
+use Rattle.line.specs.Layout.{fields, lineBytes}
+use Rattle.line.specs.Line.{writeLine}
+use Rattle.line.specs.LineLaws.{length-writeLine}
+use Rattle.checks.specs.declared.Refusal.{Refusal}
+use Rattle.sheet.specs.declared.Reading.{Reading}
+use Rattle.sheet.specs.declared.Written.{Written}
+use Rattle.checks.specs.Limits.{maxRations}
+use Rattle.checks.specs.Refusals.{shortBuffer}
+use Rattle.checks.specs.Sheet.{Job, Sheet, writeJob, writeSheet, numbersOf, jobsOf, sheetFrom}
+use Rattle.checks.specs.Checks.{fault, firstRefusal, valueFaults, flatFaults}
+use Rattle.sheet.specs.Calls.{accepted, writeRefusal, writeRefusalFor, writtenOf, bufferAfter}
+use Rattle.checks.specs.NumbersLaws.{length-numbersOf, length-jobsOf, jobsOf-numbersOf}
+use Rattle.checks.specs.SheetLaws.{length-writeJob, length-writeSheet}
+use Rattle.checks.specs.FaultLaws.{append-nil-parts, false-fault, numbered-append, numbered-fault, numbered-valueFaults}
+use Rattle.checks.specs.RangeLaws.{inRange-valueFaults}
+use Rattle.sheet.specs.CallLaws.{rationsRead-accepted}
+use Rattle.sheet.specs.OwnChecks.{ReadFrom, Wrote}
+use Rattle.sheet.specs.OwnCheckLaws.{flat-agrees, refused-before, accepted-before, read-is, read-values}
+use Rattle.checks.specs.Parts.{job}
 
 -- ---- rations side by side
 
@@ -103,60 +111,6 @@ module _ (numbers : List ℕ) where
   unfolding putAt jobsOf
   put-rations-begin out = sym (take-append-drop lineBytes out)
 
--- ---- 3 to 10
-
-module _ (slots blowers wake rations size : ℕ) (numbers : List ℕ) (h : Refusal) (e : h ≡ firstRefusal (headFaults (head slots blowers wake) rations (eqb (fields * rations) (length numbers)))) where
-  abbrev sheet : Sheet
-  sheet = sheetFrom slots blowers wake numbers
-
-  abbrev heads : List Refusal
-  heads = headFaults (head slots blowers wake) rations (eqb (fields * rations) (length numbers))
-
-  abbrev jobs : List Refusal
-  jobs = jobsFaults slots 2 0 0 (jobsOf numbers)
-
-  abbrev short : List Refusal
-  short = fault 10 0 (ltb size (lineBytes * suc rations))
-
-  all : writeRefusal sheet rations numbers size ≡ firstRefusal (heads ++ (jobs ++ short))
-  unfolding writeRefusal valueFaults headFaults sheetFrom
-  all = ap firstRefusal (append-assoc heads jobs short)
-
-  pub write-head : (h .number ≡ 0 → ⊥) → h ≡ writeRefusal sheet rations numbers size
-  write-head n = e ∙ first-left heads (jobs ++ short) (λ z. n (ap (λ r. r .number) e ∙ z)) ∙ sym all
-
-  module _ (z : h .number ≡ 0) where
-    none : heads ≡ []
-    none = numbered-headFaults (head slots blowers wake) rations (eqb (fields * rations) (length numbers)) (sym (ap (λ r. r .number) e) ∙ z)
-
-    pub write-range : HeadInRange (head slots blowers wake) rations (eqb (fields * rations) (length numbers))
-    write-range = inRange-headFaults (head slots blowers wake) rations (eqb (fields * rations) (length numbers)) none
-
-    pub write-agrees : fields * rations ≡ length numbers
-    write-agrees = eqb-true (fields * rations) (length numbers) (write-range .agree)
-
-    left : writeRefusal sheet rations numbers size ≡ firstRefusal (jobs ++ short)
-    left = all ∙ first-right heads (jobs ++ short) none
-
-    module _ (r : Refusal) (q : r ≡ firstRefusal (jobsFaults slots 2 0 0 (jobsOf (take (fields * rations) numbers)))) where
-      whole : r ≡ firstRefusal jobs
-      whole = q ∙ ap (λ xs. firstRefusal (jobsFaults slots 2 0 0 (jobsOf xs))) (ap (λ k. take k numbers) write-agrees ∙ take-length numbers)
-
-      pub write-jobs : (r .number ≡ 0 → ⊥) → r ≡ writeRefusal sheet rations numbers size
-      write-jobs n = whole ∙ first-left jobs short (λ y. n (ap (λ x. x .number) whole ∙ y)) ∙ sym left
-
-      module _ (y : r .number ≡ 0) where
-        last : writeRefusal sheet rations numbers size ≡ firstRefusal short
-        last = left ∙ first-right jobs short (numbered-jobsFaults slots 2 0 0 (jobsOf numbers) (sym (ap (λ x. x .number) whole) ∙ y))
-
-        pub write-short : size < lineBytes * (rations + 1) → record { number = 10; line = 0 } ≡ writeRefusal sheet rations numbers size
-        unfolding firstRefusal
-        write-short l = sym (last ∙ rw (lt-ltb size (lineBytes * suc rations) (omega arith)))
-
-        pub write-passed : lineBytes * (rations + 1) ≤ size → record { number = 0; line = 0 } ≡ writeRefusal sheet rations numbers size
-        unfolding firstRefusal
-        write-passed l = sym (last ∙ rw (le-ltb size (lineBytes * suc rations) (omega arith)))
-
 -- ---- what the writer answers
 
 pub record WriteAccepted (s : Sheet) (n : ℕ) (numbers : List ℕ) (size : ℕ) : Type 0 where
@@ -170,8 +124,9 @@ pub write-accepted : (s : Sheet) (n : ℕ) (numbers : List ℕ) (size : ℕ) →
 unfolding writeRefusal firstRefusal
 write-accepted s n numbers size z =
     let values = valueFaults s n (eqb (fields * n) (length numbers)) in
-    let short = fault 10 0 (ltb size (lineBytes * suc n)) in
-    let none = numbered-append values short (numbered-valueFaults s n (eqb (fields * n) (length numbers))) (numbered-fault 10 0 (ltb size (lineBytes * suc n)) (omega arith)) z in
+    let short = fault shortBuffer 0 (ltb size (lineBytes * suc n)) in
+    let none = numbered-append values short (numbered-valueFaults s n (eqb (fields * n) (length numbers)))
+    (numbered-fault shortBuffer 0 (ltb size (lineBytes * suc n)) (omega arith)) z in
     let parts = append-nil-parts values short none in
     let h = inRange-valueFaults s n (eqb (fields * n) (length numbers)) (parts .0) .head in
     record {
@@ -179,46 +134,120 @@ write-accepted s n numbers size z =
       values = subst (λ x. valueFaults s n x ≡ []) (h .agree) (parts .0);
       few = h .rations;
       agrees = eqb-true (fields * n) (length numbers) (h .agree);
-      room = ltb-false size (lineBytes * suc n) (false-fault 10 0 (ltb size (lineBytes * suc n)) (parts .1));
+      room = ltb-false size (lineBytes * suc n) (false-fault shortBuffer 0 (ltb size (lineBytes * suc n)) (parts .1));
     }
 
-module _ (slots blowers wake n : ℕ) (numbers old : List ℕ) where
+-- the writer's refusal of flat numbers, as one of own checks and a sheet
+pub writeRefusal-flat : (slots blowers wake n : ℕ) (numbers : List ℕ) (size : ℕ)
+    → let s = sheetFrom slots blowers wake numbers in
+    writeRefusalFor (flatFaults s n numbers) s size ≡ writeRefusal s n numbers size
+unfolding writeRefusalFor writeRefusal sheetFrom firstRefusal
+writeRefusal-flat slots blowers wake n numbers size = go (flatFaults s n numbers) refl
+  where
+    s : Sheet
+    s = sheetFrom slots blowers wake numbers
+
+    short : ℕ → List Refusal
+    short k = fault shortBuffer 0 (ltb size (lineBytes * suc k))
+
+    go : (own : List Refusal) → flatFaults s n numbers ≡ own
+        → firstRefusal (own ++ short (length (jobsOf numbers))) ≡ firstRefusal (own ++ short n)
+    go [] e = ap (λ k. firstRefusal (short k))
+        (length-jobsOf n numbers (sym (flat-agrees slots blowers wake n numbers e)))
+    go (x ∷ xs) e = refl
+
+pub wrote-flat : (slots blowers wake n : ℕ) (numbers old new : List ℕ) (w : Written)
+    → let s = sheetFrom slots blowers wake numbers in
+    Wrote (writeRefusalFor (flatFaults s n numbers) s (length old)) s old new w
+    → Wrote (writeRefusal s n numbers (length old)) s old new w
+wrote-flat slots blowers wake n numbers old new w h =
+    let s = sheetFrom slots blowers wake numbers in
+    subst (λ f. Wrote f s old new w) (writeRefusal-flat slots blowers wake n numbers (length old)) h
+
+-- a refusal writes nothing
+wrote-nothing : (f : Refusal) (s : Sheet) (old : List ℕ) → (f .number ≡ 0 → ⊥)
+    → Wrote f s old old (record { number = f .number; line = f .line; length = 0 })
+unfolding writtenOf bufferAfter
+wrote-nothing f s old n = (rw (ne-eqb (f .number) 0 n), rw (ne-eqb (f .number) 0 n))
+
+-- number 0 writes the sheet
+wrote-sheet : (f : Refusal) (s : Sheet) (old new : List ℕ) (k : ℕ) → f ≡ record { number = 0; line = 0 }
+    → k ≡ length (writeSheet s) → new ≡ over (writeSheet s) old
+    → Wrote f s old new (record { number = 0; line = 0; length = k })
+unfolding writtenOf bufferAfter
+wrote-sheet f s old new k e l b = (rw e (λ i. record { number = 0; line = 0; length = l i }), rw e b)
+
+module _ {own : List Refusal} {s : Sheet} {r : Reading} (h : ReadFrom own s r) (old : List ℕ) where
   abbrev answer : Refusal
-  answer = writeRefusal (sheetFrom slots blowers wake numbers) n numbers (length old)
+  answer = writeRefusalFor own s (length old)
 
-  pub written-refused : (r : Refusal) → r ≡ answer → (r .number ≡ 0 → ⊥)
-      → (record { number = r .number; line = r .line; length = 0 } ≡ writtenOf answer (sheetFrom slots blowers wake numbers))
-      × (old ≡ bufferAfter answer (sheetFrom slots blowers wake numbers) old)
-  unfolding writtenOf bufferAfter
-  written-refused r e k = (rw (← e, ne-eqb (r .number) 0 k), rw (← e, ne-eqb (r .number) 0 k))
+  -- refused before 10
+  pub wrote-refused : (r .number ≡ 0 → ⊥)
+      → Wrote answer s old old (record { number = r .number; line = r .line; length = 0 })
+  unfolding writeRefusalFor
+  wrote-refused n =
+      let f : Refusal = record { number = r .number; line = r .line } in
+      subst (λ x. Wrote x s old old (record { number = r .number; line = r .line; length = 0 }))
+      (sym (refused-before h n _)) (wrote-nothing f s old n)
 
-  module _ (a : WriteAccepted (sheetFrom slots blowers wake numbers) n numbers (length old)) where
-    count : length (jobsOf numbers) ≡ n
-    count = length-jobsOf n numbers (sym (a .agrees))
+  module _ (z : r .number ≡ 0) where
+    -- the head line's numbers and the rations that were read
+    abbrev headLine : List ℕ
+    headLine = writeLine (r .slots) (r .blowers) (r .wake) (r .rations)
 
-    pub written-length : record { number = 0; line = 0; length = lineBytes * (n + 1) } ≡ writtenOf answer (sheetFrom slots blowers wake numbers)
-    unfolding writtenOf sheetFrom
-    written-length =
-        rw (a .refusal)
-        (λ i. record { number = 0; line = 0; length = (size n ∙ ap (λ k. lineBytes * suc k) (sym count) ∙ sym (length-writeSheet (sheetFrom slots blowers wake numbers))) i })
+    abbrev rationLines : List ℕ
+    rationLines = flatMap writeJob (jobsOf (take (fields * r .rations) (r .numbers)))
+
+    read-text : headLine ++ rationLines ≡ writeSheet s
+    unfolding writeSheet accepted
+    read-text =
+        ap (λ x. writeLine (x .slots) (x .blowers) (x .wake) (x .rations) ++ flatMap writeJob
+        (jobsOf (take (fields * x .rations) (x .numbers)))) (read-is h z)
+        ∙ ap (λ js. writeLine (s .slots) (s .blowers) (s .wake) (length (s .jobs)) ++ flatMap writeJob js)
+        (ap jobsOf (rationsRead-accepted s) ∙ jobsOf-numbersOf (s .jobs))
+
+    count : r .rations ≡ length (s .jobs)
+    unfolding accepted
+    count = ap (λ x. x .rations) (read-is h z)
+
+    pub wrote-few : r .rations ≤ maxRations
+    wrote-few = omega (arith, count, read-values h z .head .rations)
+
+    pub wrote-long : length (r .numbers) ≡ fields * maxRations
+    unfolding accepted
+    wrote-long =
+        ap (λ x. length (x .numbers)) (read-is h z)
+        ∙ length-padded (fields * maxRations) (numbersOf (s .jobs))
+        (omega (arith, length-numbersOf (s .jobs), read-values h z .head .rations))
+
+    left : answer ≡ firstRefusal (fault shortBuffer 0 (ltb (length old) (lineBytes * suc (length (s .jobs)))))
+    unfolding writeRefusalFor
+    left = accepted-before h z _
+
+    -- refused by 10
+    pub wrote-short : length old < lineBytes * (r .rations + 1)
+        → Wrote answer s old old (record { number = shortBuffer; line = 0; length = 0 })
+    unfolding firstRefusal
+    wrote-short l =
+        let f : Refusal = record { number = shortBuffer; line = 0 } in
+        subst (λ x. Wrote x s old old (record { number = shortBuffer; line = 0; length = 0 }))
+        (sym (left ∙ ap (λ t. firstRefusal (fault shortBuffer 0 t))
+        (lt-ltb (length old) (lineBytes * suc (length (s .jobs))) (omega (arith, count)))))
+        (wrote-nothing f s old (λ e. omega (arith, e)))
+
+    pub wrote-read : lineBytes * (r .rations + 1) ≤ length old → (mid last : List ℕ) → mid ≡ putAt 0 headLine old
+        → last ≡ putAt lineBytes rationLines mid
+        → Wrote answer s old last (record { number = 0; line = 0; length = lineBytes * (r .rations + 1) })
+    unfolding firstRefusal over putAt
+    wrote-read l mid last p q =
+        wrote-sheet answer s old last (lineBytes * (r .rations + 1))
+        (left ∙ ap (λ t. firstRefusal (fault shortBuffer 0 t))
+        (le-ltb (length old) (lineBytes * suc (length (s .jobs))) (omega (arith, count))))
+        (omega (arith, count, length-writeSheet s))
+        (q ∙ ap (putAt lineBytes rationLines) p
+        ∙ putAt-append 0 lineBytes headLine rationLines old
+        (length-writeLine (r .slots) (r .blowers) (r .wake) (r .rations)) (omega arith)
+        ∙ ap (λ t. putAt 0 t old) read-text ∙ ap (λ k. writeSheet s ++ drop k old) (front (length (writeSheet s))))
       where
-        size : (n : ℕ) → lineBytes * (n + 1) ≡ lineBytes * suc n
-        size n = omega arith
-
-    pub written-buffer : (mid last : List ℕ) → mid ≡ putAt 0 (writeLine slots blowers wake n) old
-        → last ≡ putAt lineBytes (flatMap writeJob (jobsOf (take (fields * n) numbers))) mid
-        → last ≡ bufferAfter answer (sheetFrom slots blowers wake numbers) old
-    unfolding bufferAfter sheetFrom writeSheet over putAt
-    written-buffer mid last p q =
-        q ∙ ap (λ xs. putAt lineBytes (flatMap writeJob (jobsOf xs)) mid) (ap (λ k. take k numbers) (a .agrees) ∙ take-length numbers)
-        ∙ ap (putAt lineBytes (flatMap writeJob (jobsOf numbers))) p
-        ∙ putAt-append 0 lineBytes (writeLine slots blowers wake n) (flatMap writeJob (jobsOf numbers)) old (length-writeLine slots blowers wake n) (let r = a .room in omega arith)
-        ∙ ap (λ k. putAt 0 (writeLine slots blowers wake k ++ flatMap writeJob (jobsOf numbers)) old) (sym count)
-        ∙ ap (λ k. text ++ drop k old) (front (length text))
-        ∙ rw (a .refusal)
-      where
-        text : List ℕ
-        text = writeLine slots blowers wake (length (jobsOf numbers)) ++ flatMap writeJob (jobsOf numbers)
-
         front : (k : ℕ) → 0 + k ≡ k
         front k = omega arith

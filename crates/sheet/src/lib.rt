@@ -1,37 +1,22 @@
-// The feed sheet: reading, writing, and looking a tank up.
+// The feed sheet: reading and writing.
 //
-// A sheet is ASCII text in lines of 21 bytes, four fields of five columns and byte 10. `read` gives the sheet's numbers or the first refusal of
-// the paper's checks 1 to 9 and 13, `write` makes a sheet's bytes from its numbers, and `find` hands back a tank's lines. What is written is read back to the
-// same numbers, and what is accepted is written back to the same bytes (specs/Theorems.antt).
-mod checks;
-mod fields;
-mod finder;
-pub mod limits;
+// A sheet is ASCII text in lines of four fields: the head line, and a line for each ration. `read` gives the sheet's
+// numbers or the first refusal of the paper's checks 1 to 9 and 13, and `write` makes a sheet's bytes from its
+// numbers. What is written is read back to the same numbers, and what is accepted is written back to the same bytes
+// (specs/Theorems.antt). `read_numbers` reads numbers at hand, under the checks 3 to 9 and 13, so that whatever takes a
+// reading need not know where it comes from.
 mod lines;
 mod reader;
 mod writer;
 
-pub use finder::find;
-pub use finder::place;
 pub use reader::read;
 pub use writer::write;
 
-// for the layers above: it asks for room in the buffer
-pub use lines::put_line;
+// for the layers above: `write_of` asks for a reading
+pub use reader::read_numbers;
+pub use writer::write_of;
 
-// What a field holds: a number in the stated form, or something else.
-pub enum Field {
-    Value(u32),
-    Faulty,
-}
-
-// A refusal's number and the line that it names; 0 and 0 where nothing is refused.
-pub struct Refusal {
-    pub number: u32,
-    pub line: u32,
-}
-
-// What `read` answers. On a refusal every field after `line` is 0.
+// What `read` and `read_numbers` answer. On a refusal every field after `line` is 0.
 #[repr(C)]
 pub struct Reading {
     pub number: u32,
@@ -49,12 +34,5 @@ pub struct Reading {
 pub struct Written {
     pub number: u32,
     pub line: u32,
-    pub length: usize,
-}
-
-// Where a part of a sheet is: its first byte and its length.
-#[repr(C)]
-pub struct Part {
-    pub start: usize,
     pub length: usize,
 }

@@ -1,47 +1,19 @@
 // Writing a sheet.
-use crate::Refusal;
+use crate::Reading;
 use crate::Written;
-use crate::checks;
-use crate::limits::LINE;
-use crate::lines;
+use crate::reader;
+use checks::refusals::SHORT_BUFFER;
+use line::layout::LINE;
 ghost use mathlib.Core.Path.{_≡_};
-ghost use mathlib.Core.List.{_++_};
-ghost use Prim.Native.Nat.{ℕ, suc, _+_, _*_, _≤_, _<_};
+ghost use Prim.Native.Nat.{_+_, _*_, _<_};
 ghost use lib.ListN.{length, take};
 ghost use Rattle.common.specs.Lists.{flatMap};
-ghost use Rattle.sheet.specs.Limits.{lineBytes, fields, maxRations};
-ghost use Rattle.sheet.specs.Sheet.{jobsOf, writeJob};
-ghost use Rattle.sheet.specs.Calls.{sheetFrom, writeRefusal, writtenOf, bufferAfter};
-ghost use Rattle.sheet.specs.Parts.{putAt, CanPutRations};
-
-// 3 to 9, 13 and 10: the values, then the buffer's size.
-fn write_refusal(
-    slots: u32,
-    blowers: u32,
-    wake: u32,
-    rations: u32,
-    numbers: &[u32],
-    size: usize,
-) -> Refusal
-    ensures { λ r. ⌜ r ≡ writeRefusal (sheetFrom slots blowers wake (now (numbers .entry))) rations (now (numbers .entry)) size ⌝ }
-{
-    let n = rations as usize;
-    let head = checks::head_refusal(slots, blowers, wake, rations, 4 * n == numbers.len());
-    if head.number != 0 {
-        return head;
-    }
-    let r = checks::rations_refusal(slots, n, numbers);
-    if r.number != 0 {
-        return r;
-    }
-    if size < LINE * (n + 1) {
-        return Refusal {
-            number: 10,
-            line: 0,
-        };
-    }
-    Refusal { number: 0, line: 0 }
-}
+ghost use Rattle.common.specs.Buffers.{putAt};
+ghost use Rattle.line.specs.Layout.{lineBytes, fields};
+ghost use Rattle.checks.specs.Sheet.{jobsOf, writeJob, sheetFrom};
+ghost use Rattle.sheet.specs.Calls.{writeRefusal, writtenOf, bufferAfter};
+ghost use Rattle.sheet.specs.OwnChecks.{SomeReading, ReadWritten};
+ghost use Rattle.sheet.specs.Parts.{CanPutRations};
 
 // Writes a line for each of n rations, from the second line on.
 fn put_rations(out: &mut [u8], n: usize, numbers: &[u32])
@@ -51,7 +23,7 @@ fn put_rations(out: &mut [u8], n: usize, numbers: &[u32])
     let mut i = 0;
     while i < n {
         let at = 4 * i;
-        lines::put_line(
+        line::put_line(
             out,
             LINE * (i + 1),
             numbers[at],
@@ -60,6 +32,44 @@ fn put_rations(out: &mut [u8], n: usize, numbers: &[u32])
             numbers[at + 3],
         );
         i += 1;
+    }
+}
+
+// Writes the sheet that was read, where no check of it applied and the buffer is long enough: number 0 and its length,
+// and its bytes at the front of out; or the number and the line of the first refusal, and out as it was.
+pub fn write_of(sheet: Reading, out: &mut [u8]) -> Written
+    requires { ⌜ SomeReading sheet ⌝ }
+    ensures { λ r. ⌜ ReadWritten sheet (now (out .entry)) (now (out .exit)) r ⌝ }
+{
+    if sheet.number != 0 {
+        return Written {
+            number: sheet.number,
+            line: sheet.line,
+            length: 0,
+        };
+    }
+    let n = sheet.rations as usize;
+    if out.len() < LINE * (n + 1) {
+        return Written {
+            number: SHORT_BUFFER,
+            line: 0,
+            length: 0,
+        };
+    }
+    line::put_line(
+        out,
+        0,
+        sheet.slots,
+        sheet.blowers,
+        sheet.wake,
+        sheet.rations,
+    );
+    let numbers = sheet.numbers;
+    put_rations(out, n, &numbers);
+    Written {
+        number: 0,
+        line: 0,
+        length: LINE * (n + 1),
     }
 }
 
@@ -79,20 +89,8 @@ pub fn write(
     ensures { λ _. ⌜ now (out .exit) ≡ bufferAfter (writeRefusal (sheetFrom slots blowers wake (now (numbers .entry))) rations (now (numbers .entry)) (length (now (out .entry))))
         (sheetFrom slots blowers wake (now (numbers .entry))) (now (out .entry)) ⌝ }
 {
-    let r = write_refusal(slots, blowers, wake, rations, numbers, out.len());
-    if r.number != 0 {
-        return Written {
-            number: r.number,
-            line: r.line,
-            length: 0,
-        };
-    }
-    lines::put_line(out, 0, slots, blowers, wake, rations);
-    let n = rations as usize;
-    put_rations(out, n, numbers);
-    Written {
-        number: 0,
-        line: 0,
-        length: LINE * (n + 1),
-    }
+    write_of(
+        reader::read_numbers(slots, blowers, wake, rations, numbers),
+        out,
+    )
 }

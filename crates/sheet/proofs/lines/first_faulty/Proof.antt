@@ -2,9 +2,10 @@
 use mathlib.Core.Path.{_≡_, refl, sym, _∙_}
 use Prim.Native.Nat.{_+_, _*_, _≤_, _-_}
 use lib.ListN.{length}
-use Rattle.sheet.specs.Limits.{width, fields, lineBytes}
-use Rattle.sheet.specs.Sheet.{lineAt, faultyFrom, faultyLine}
-use Rattle.sheet.specs.Checks.{firstFaulty}
+use Rattle.line.specs.Layout.{width, fields, lineBytes}
+use Rattle.line.specs.Line.{faultyFrom, faultyLine}
+use Rattle.checks.specs.Sheet.{lineAt}
+use Rattle.checks.specs.Checks.{firstFaulty}
 use Rattle.sheet.specs.LineSteps.{field-hit, field-miss, closing-hit, closing-miss, faulty-begin, first-begin, first-end, first-hit, first-miss}
 use native.Mathlib.Omega.{arith}
 use Rattle.sheet.proofs.lines.first_faulty.Statement.{statement}

@@ -1,7 +1,7 @@
 -- `sheet::lines::put_numbers` meets its contract. Assumes nothing.
 use mathlib.Core.Path.{_∙_}
 use Prim.Native.Nat.{_+_, _*_}
-use Rattle.sheet.specs.Limits.{width, lineBytes}
+use Rattle.line.specs.Layout.{width, lineBytes}
 use Rattle.sheet.specs.LineSteps.{put-numbers-at, value-place}
 use native.Mathlib.Omega.{arith}
 use borrow.Author.Needs.{needs}

@@ -2,7 +2,7 @@
 use Rattle.sheet.specs.ReadSteps.{firstFaulty-le, form-short, form-long, form-odd, form-fine, form-faulty}
 use Prim.Native.Nat.{_/_}
 use lib.ListN.{length}
-use Rattle.sheet.specs.Limits.{lineBytes}
+use Rattle.line.specs.Layout.{lineBytes}
 use native.Mathlib.Omega.{arith}
 use borrow.Author.Needs.{needs}
 use Rattle.sheet.proofs.reader.form_refusal.Statement.{statement}

@@ -2,10 +2,12 @@
 use mathlib.Core.Path.{_≡_, ap, _∙_}
 use Prim.Native.Nat.{_+_, _*_, _≤_, _-_}
 use lib.ListN.{length}
-use Rattle.sheet.specs.Limits.{fields, lineBytes, maxRations}
-use Rattle.sheet.specs.Calls.{padded}
-use Rattle.sheet.specs.Parts.{putAt, numbersAt}
-use Rattle.sheet.specs.ReadSteps.{filled, length-filled, length-padded, fill-begin, fill-next}
+use Rattle.common.specs.Buffers.{padded, putAt}
+use Rattle.common.specs.BufferLaws.{length-padded}
+use Rattle.line.specs.Layout.{fields, lineBytes}
+use Rattle.checks.specs.Limits.{maxRations}
+use Rattle.sheet.specs.Parts.{numbersAt}
+use Rattle.sheet.specs.ReadSteps.{filled, length-filled, fill-begin, fill-next}
 use native.Mathlib.Omega.{arith}
 use Rattle.sheet.proofs.reader.ration_numbers.Statement.{statement}
 use Rattle.sheet.proofs.reader.ration_numbers.Tie as tie

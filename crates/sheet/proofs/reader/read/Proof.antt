@@ -2,10 +2,12 @@
 use mathlib.Core.Path.{refl, ap, _∙_}
 use Prim.Native.Nat.{_-_, _*_, _/_}
 use lib.ListN.{length}
-use Rattle.sheet.specs.Limits.{width, fields, lineBytes, maxRations}
-use Rattle.sheet.specs.Sheet.{lineCount}
+use Rattle.common.specs.BufferLaws.{length-padded}
+use Rattle.line.specs.Layout.{width, fields, lineBytes}
+use Rattle.checks.specs.Limits.{maxRations}
+use Rattle.checks.specs.Sheet.{lineCount}
 use Rattle.sheet.specs.LineSteps.{value-place}
-use Rattle.sheet.specs.ReadSteps.{filled, length-filled, length-padded, form-refused, head-refused, head-passed, head-agrees, jobs-refused, read-accepted}
+use Rattle.sheet.specs.ReadSteps.{filled, length-filled, form-refused, head-refused, head-passed, head-agrees, jobs-refused, read-accepted}
 use native.Mathlib.Omega.{arith}
 use borrow.Author.Needs.{needs}
 use Rattle.sheet.proofs.reader.read.Statement.{statement}

@@ -3,9 +3,10 @@ use mathlib.Core.Path.{_≡_, refl, ap, _∙_}
 use Prim.Native.Nat.{_+_, _*_, _≤_, _-_}
 use lib.ListN.{length}
 use Rattle.common.specs.Lists.{flatMap}
-use Rattle.sheet.specs.Limits.{fields, lineBytes, maxRations}
-use Rattle.sheet.specs.Sheet.{writeJob}
-use Rattle.sheet.specs.Parts.{putAt}
+use Rattle.common.specs.Buffers.{putAt}
+use Rattle.line.specs.Layout.{fields, lineBytes}
+use Rattle.checks.specs.Limits.{maxRations}
+use Rattle.checks.specs.Sheet.{writeJob}
 use Rattle.sheet.specs.WriteSteps.{firstJobs, put-ration, put-rations-begin}
 use native.Mathlib.Omega.{arith}
 use Rattle.sheet.proofs.writer.put_rations.Statement.{statement}

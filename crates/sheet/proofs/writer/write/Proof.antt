@@ -1,46 +1,40 @@
--- `sheet::writer::write` meets its contract. Assumes nothing.
-use mathlib.Core.Path.{ap, sym, _∙_}
-use lib.ListN.{length}
-use Rattle.sheet.specs.Calls.{sheetFrom}
-use Rattle.sheet.specs.WriteSteps.{write-accepted, written-refused, written-length, written-buffer}
-use native.Mathlib.Omega.{arith}
+-- `sheet::writer::write` meets its contract: it writes what is read of the numbers. Assumes nothing.
+use Rattle.checks.specs.Sheet.{sheetFrom}
+use Rattle.checks.specs.Checks.{flatFaults}
+use Rattle.sheet.specs.OwnCheckLaws.{flat-checked}
+use Rattle.sheet.specs.WriteSteps.{wrote-flat}
 use borrow.Author.Needs.{needs}
 use Rattle.sheet.proofs.writer.write.Statement.{statement}
 use Rattle.sheet.proofs.writer.write.Tie as tie
 
-write-refusal-requires : tie.Need-write-refusal-requires
-write-refusal-requires c κs = search needs
+read-numbers-requires : tie.Need-read-numbers-requires
+read-numbers-requires c κs = search needs
 
-returns : tie.Need-returns
-returns c = written-refused (c .before .before .before .before .before .args .slots) (c .before .before .before .before .before .args .blowers) (c .before .before .before .before .before .args .wake) (c .before .before .before .before .before .args .rations) (c .before .before .before .before .before .args .numbers .now) (c .before .before .before .before .before .args .out .now) _ (c .before .before .write-refusal .ensures) (c .if1 .taken)
-
-put-line-requires : tie.Need-put-line-requires
-put-line-requires c κs = let a = write-accepted (sheetFrom (c .before .before .before .before .before .before .args .slots) (c .before .before .before .before .before .before .args .blowers) (c .before .before .before .before .before .before .args .wake) (c .before .before .before .before .before .before .args .numbers .now)) (c .before .before .before .before .before .before .args .rations) (c .before .before .before .before .before .before .args .numbers .now) (length (c .before .before .before .before .before .before .args .out .now)) (sym (ap (λ r. r .number) (c .before .before .before .write-refusal .ensures)) ∙ c .before .if1 .left) in omega (arith, a .room)
-
-put-rations-requires : tie.Need-put-rations-requires
-put-rations-requires c κs = let a = write-accepted (sheetFrom (c .before .before .before .before .before .before .before .before .before .before .args .slots) (c .before .before .before .before .before .before .before .before .before .before .args .blowers) (c .before .before .before .before .before .before .before .before .before .before .args .wake) (c .before .before .before .before .before .before .before .before .before .before .args .numbers .now)) (c .before .before .before .before .before .before .before .before .before .before .args .rations) (c .before .before .before .before .before .before .before .before .before .before .args .numbers .now) (length (c .before .before .before .before .before .before .before .before .before .before .args .out .now)) (sym (ap (λ r. r .number) (c .before .before .before .before .before .before .before .write-refusal .ensures)) ∙ c .before .before .before .before .before .if1 .left) in record { few = a .few; there = omega (arith, a .agrees); room = omega (arith, a .room, c .before .before .before .put-line .kept .0) }
-
-add-t9 : tie.Need-add-t9
-add-t9 c = search needs
-
-mul-t16 : tie.Need-mul-t16
-mul-t16 c = search needs
+write-of-requires : tie.Need-write-of-requires
+write-of-requires c κs =
+    let a = c .before .before .before .before .args in
+    let s = sheetFrom (a .slots) (a .blowers) (a .wake) (a .numbers .now) in
+    record {
+      own = flatFaults s (a .rations) (a .numbers .now);
+      sheet = s;
+      read =
+          record {
+            checks = flat-checked (a .slots) (a .blowers) (a .wake) (a .rations) (a .numbers .now);
+            is = c .before .read-numbers .ensures;
+          };
+    }
 
 same-length : tie.Need-same-length
 same-length c = search needs
 
-returns-2 : tie.Need-returns-2
-returns-2 c = let a = write-accepted (sheetFrom (c .before .before .before .before .before .before .before .before .before .before .before .before .before .args .slots) (c .before .before .before .before .before .before .before .before .before .before .before .before .before .args .blowers) (c .before .before .before .before .before .before .before .before .before .before .before .before .before .args .wake) (c .before .before .before .before .before .before .before .before .before .before .before .before .before .args .numbers .now)) (c .before .before .before .before .before .before .before .before .before .before .before .before .before .args .rations) (c .before .before .before .before .before .before .before .before .before .before .before .before .before .args .numbers .now) (length (c .before .before .before .before .before .before .before .before .before .before .before .before .before .args .out .now)) (sym (ap (λ r. r .number) (c .before .before .before .before .before .before .before .before .before .before .write-refusal .ensures)) ∙ c .before .before .before .before .before .before .before .before .if1 .left) in (written-length (c .before .before .before .before .before .before .before .before .before .before .before .before .before .args .slots) (c .before .before .before .before .before .before .before .before .before .before .before .before .before .args .blowers) (c .before .before .before .before .before .before .before .before .before .before .before .before .before .args .wake) (c .before .before .before .before .before .before .before .before .before .before .before .before .before .args .rations) (c .before .before .before .before .before .before .before .before .before .before .before .before .before .args .numbers .now) (c .before .before .before .before .before .before .before .before .before .before .before .before .before .args .out .now) a, written-buffer (c .before .before .before .before .before .before .before .before .before .before .before .before .before .args .slots) (c .before .before .before .before .before .before .before .before .before .before .before .before .before .args .blowers) (c .before .before .before .before .before .before .before .before .before .before .before .before .before .args .wake) (c .before .before .before .before .before .before .before .before .before .before .before .before .before .args .rations) (c .before .before .before .before .before .before .before .before .before .before .before .before .before .args .numbers .now) (c .before .before .before .before .before .before .before .before .before .before .before .before .before .args .out .now) a _ _ (c .before .before .before .before .before .before .put-line .ensures) (c .before .before .put-rations .ensures))
+returns : tie.Need-returns
+returns c =
+    let a = c .before .before .before .before .before .before .before .args in
+    wrote-flat (a .slots) (a .blowers) (a .wake) (a .rations) (a .numbers .now) (a .out .now) _ _ (c .before .before .write-of .ensures _ _
+    (record {
+      checks = flat-checked (a .slots) (a .blowers) (a .wake) (a .rations) (a .numbers .now);
+      is = c .before .before .before .before .read-numbers .ensures;
+    }))
 
 pub write-spec : {M : Type 1} → statement M
-write-spec =
-    tie.close
-    (tie.spec
-    write-refusal-requires
-    returns
-    put-line-requires
-    put-rations-requires
-    add-t9
-    mul-t16
-    same-length
-    returns-2)
+write-spec = tie.close (tie.spec read-numbers-requires write-of-requires same-length returns)
