@@ -1,0 +1,168 @@
+-- The minimal critical set is of greatest shortfall, every set of greatest shortfall contains it, and it is empty exactly where no set has
+-- a greater shortfall than the empty one. Assumes nothing.
+use mathlib.Core.Path.{_≡_, refl, sym, _∙_, ap}
+use mathlib.Core.Logic.{_↔_}
+use mathlib.Core.Bool.{Bool, true, false, false≢true}
+use mathlib.Core.List.{List}
+use Prim.Native.Nat.{ℕ, _≤_, _<_}
+use native.Mathlib.Omega.{arith}
+use lib.ListN.{length, getD, replicate, length-replicate, getD-replicate}
+use lib.Seq.{ext-getD}
+use lib.IntN.{pos}
+use lib.Signed.{_≤ℤ_}
+use Rattle.common.specs.Lists.{count}
+use Rattle.common.specs.Tests.{bool-ext}
+use Rattle.theory.specs.SumsOver as S
+use Rattle.theory.specs.SumsOver.{on-cong, on-none, on-zero}
+use Rattle.theory.specs.Placing as F
+use Rattle.theory.specs.Volumes.{forced-cong, forced-none-of-fits}
+use Rattle.theory.specs.Critical as C
+use Rattle.theory.specs.Critical.{Critical, greatest-meet, critical-unique}
+use Rattle.schedules.specs.Slots.{Slots, has, sumOver, meet}
+use Rattle.schedules.specs.Schedules.{Demand, Windows, windowOf, volumeOf, feasible}
+use Rattle.schedules.specs.Shortfall.{forced, capacity, shortfall, possible, excess, NoObstacle, criticalSet}
+use Rattle.schedules.specs.Tabulate.{tab, length-tab, getD-tab, tab-unique, count-size}
+use Rattle.schedules.specs.Differences.{sub-le, sub-le-zero}
+use Rattle.schedules.specs.AsFunctions.{free, bound, forced-as, sumOver-as, forced-tab, sumOver-tab}
+use Rattle.schedules.specs.FeasibleLaws.{sound-feasible, no-obstacle-sound}
+use Rattle.schedules.specs.GreatestLaws.{Greatest, length-meet, has-meet, length-inEveryGreatest, inEveryGreatest-in, inEveryGreatest-greatest}
+
+module _ {slots : ℕ} {ds : List Demand} (w : Windows slots ds) (high : List ℕ) (h : length high ≡ slots) where
+  abbrev Top : Slots → Type 0
+  Top = Greatest slots (forced ds) (capacity high)
+
+  abbrev TopF : (ℕ → Bool) → Type 0
+  TopF = C.Greatest (length ds) slots (free ds) (volumeOf ds) (bound high)
+
+  -- Greatest, of lists and of functions ---------------------------------------
+
+  top-function : (q : Slots) → length q ≡ slots → Top q → TopF (has q)
+  top-function q e g Q =
+      omega (
+        arith,
+        g (tab slots Q) (length-tab slots Q),
+        forced-as w q e,
+        sumOver-as high q h e,
+        forced-tab w Q,
+        sumOver-tab high h Q,
+      )
+
+  function-top : (q : Slots) → length q ≡ slots → TopF (has q) → Top q
+  function-top q e g r k = omega (arith, g (has r), forced-as w q e, sumOver-as high q h e, forced-as w r k, sumOver-as high r h k)
+
+  top-cong : {A B : ℕ → Bool} → ((t : ℕ) → t < slots → A t ≡ B t) → TopF A → TopF B
+  top-cong {A} {B} k g Q =
+      omega (arith, g Q, forced-cong (length ds) slots (free ds) (volumeOf ds) k, on-cong {x = bound high} {y = bound high} k (λ t l. refl))
+
+  top-meet : (a b : Slots) → length a ≡ slots → length b ≡ slots → Top a → Top b → Top (meet a b)
+  top-meet a b p q x y =
+      function-top (meet a b) (length-meet a b p q)
+      (top-cong (λ t l. sym (has-meet a b p q t l))
+      (greatest-meet (length ds) slots (free ds) (volumeOf ds) (bound high) (has a) (has b) (top-function a p x) (top-function b q y)))
+
+  -- The minimal critical set --------------------------------------------------
+
+  pub length-criticalSet : length (criticalSet slots ds high) ≡ slots
+  unfolding criticalSet shortfall
+  length-criticalSet = length-inEveryGreatest slots (forced ds) (capacity high)
+
+  critical-top : Top (criticalSet slots ds high)
+  unfolding criticalSet shortfall
+  critical-top = inEveryGreatest-greatest slots (forced ds) (capacity high) top-meet
+
+  critical-in-top : (q : Slots) → length q ≡ slots → Top q → (t : ℕ) → has (criticalSet slots ds high) t ≡ true → has q t ≡ true
+  unfolding criticalSet shortfall
+  critical-in-top = inEveryGreatest-in slots (forced ds) (capacity high)
+
+  -- (c) no set has a greater shortfall
+  pub shortfall-le-critical : (q : Slots) → length q ≡ slots → shortfall ds high q ≤ℤ shortfall ds high (criticalSet slots ds high)
+  unfolding shortfall
+  shortfall-le-critical q e =
+      sub-le (forced ds q) (capacity high q) (forced ds (criticalSet slots ds high)) (capacity high (criticalSet slots ds high)) .1
+      (critical-top q e)
+
+  -- and one that has as much contains it
+  pub critical-within : (q : Slots) → length q ≡ slots → shortfall ds high (criticalSet slots ds high) ≤ℤ shortfall ds high q
+      → (t : ℕ) → has (criticalSet slots ds high) t ≡ true → has q t ≡ true
+  unfolding shortfall
+  critical-within q e k =
+      let C : Slots = criticalSet slots ds high in
+      critical-in-top q e (λ r l. omega (arith, critical-top r l, sub-le (forced ds C) (capacity high C) (forced ds q) (capacity high q) .0 k))
+
+  -- The empty set -------------------------------------------------------------
+
+  abbrev pub none : Slots
+  none = replicate slots false
+
+  has-none : (t : ℕ) → t < slots → has none t ≡ false
+  has-none t l = getD-replicate slots t false false l
+
+  capacity-none : capacity high none ≡ 0
+  capacity-none = sumOver-as high none h (length-replicate slots false) ∙ on-cong has-none (λ t l. refl) ∙ on-none slots (bound high)
+
+  pub critical-empty-iff : (criticalSet slots ds high ≡ none) ↔ ((q : Slots) → length q ≡ slots → shortfall ds high q ≤ℤ shortfall ds high none)
+  unfolding shortfall
+  critical-empty-iff = (λ e q l. rw e at (shortfall-le-critical q l), empty)
+    where
+      empty : ((q : Slots) → length q ≡ slots → shortfall ds high q ≤ℤ shortfall ds high none) → criticalSet slots ds high ≡ none
+      empty g = ext-getD false (criticalSet slots ds high) none (length-criticalSet ∙ sym (length-replicate slots false)) at
+        where
+          top : Top none
+          top q l = sub-le (forced ds q) (capacity high q) (forced ds none) (capacity high none) .0 (g q l)
+
+          at : (t : ℕ) → t < length (criticalSet slots ds high) → has (criticalSet slots ds high) t ≡ has none t
+          at t l =
+              bool-ext (has (criticalSet slots ds high) t) (has none t) (critical-in-top none (length-replicate slots false) top t)
+              (λ e. absurd (false≢true (sym (has-none t (rw length-criticalSet at l)) ∙ e)))
+
+  -- where each volume fits in its window, the empty set has shortfall 0
+  pub shortfall-none : ((j : ℕ) → j < length ds → volumeOf ds j ≤ count (windowOf ds j)) → shortfall ds high none ≡ pos 0
+  unfolding shortfall
+  shortfall-none k =
+      let e : forced ds none ≡ 0 =
+      forced-as w none (length-replicate slots false) ∙ forced-cong (length ds) slots (free ds) (volumeOf ds) has-none
+      ∙ forced-none-of-fits (length ds) slots (free ds) (volumeOf ds)
+      (λ j l. omega (arith, k j l, count-size (windowOf ds j) ∙ ap (λ d. F.size d (free ds j)) (w .all-day j l))) in
+      rw (e, capacity-none)
+
+  -- Held days -----------------------------------------------------------------
+
+  abbrev pub noLow : List ℕ
+  noLow = replicate slots 0
+
+  low-none : (q : Slots) → length q ≡ slots → sumOver noLow q ≡ 0
+  low-none q e =
+      sumOver-as noLow q (length-replicate slots 0) e ∙ on-cong (λ t l. refl) (λ t l. getD-replicate slots t 0 0 l) ∙ on-zero slots (has q)
+
+  -- where the critical set is not forced over its capacity, no set is an obstacle to the highs
+  critical-no-obstacle : forced ds (criticalSet slots ds high) ≤ capacity high (criticalSet slots ds high) → NoObstacle slots ds noLow high
+  unfolding shortfall excess
+  critical-no-obstacle k = record {
+    ordered = λ t l. let z : getD noLow t 0 ≡ 0 = getD-replicate slots t 0 0 l in omega arith;
+    no-shortfall = λ q e. sub-le-zero (forced ds q) (capacity high q) .1 (omega (arith, critical-top q e));
+    no-excess = λ q e. sub-le-zero (sumOver noLow q) (possible ds q) .1 (omega (arith, low-none q e));
+  }
+
+  pub infeasible-critical : feasible slots ds noLow high ≡ false
+      → capacity high (criticalSet slots ds high) < forced ds (criticalSet slots ds high)
+  infeasible-critical e =
+      let no : ¬ (forced ds (criticalSet slots ds high) ≤ capacity high (criticalSet slots ds high)) = λ k. (
+      let s = no-obstacle-sound w (length-replicate slots 0) h (critical-no-obstacle k) in
+      false≢true (sym e ∙ sound-feasible w (length-replicate slots 0) h (s .1))) in
+      omega arith
+
+  -- As functions --------------------------------------------------------------
+
+  critical-function : Critical (length ds) slots (free ds) (volumeOf ds) (bound high) (has (criticalSet slots ds high))
+  critical-function = record {
+    greatest = top-function (criticalSet slots ds high) length-criticalSet critical-top;
+    least = λ Q e t l c.
+        let top : TopF Q = λ R. omega (arith, top-function (criticalSet slots ds high) length-criticalSet critical-top R) in
+        sym (getD-tab slots Q false t l)
+        ∙ critical-in-top (tab slots Q) (length-tab slots Q)
+        (function-top (tab slots Q) (length-tab slots Q) (top-cong (λ t l. sym (getD-tab slots Q false t l)) top)) t c;
+  }
+
+  -- there is one minimal critical set only
+  pub critical-as : {R : ℕ → Bool} → Critical (length ds) slots (free ds) (volumeOf ds) (bound high) R → criticalSet slots ds high ≡ tab slots R
+  critical-as {R} c = tab-unique false (criticalSet slots ds high) slots R length-criticalSet (critical-unique critical-function c)
