@@ -2,9 +2,13 @@
 use mathlib.Core.Path.{_≡_, refl, sym, ap, _∙_}
 use mathlib.Core.Bool.{Bool, true, false}
 use mathlib.Core.List.{List}
-use Prim.Native.Nat.{ℕ, _<_}
+use Prim.Native.Nat.{ℕ, _+_, _≤_, _<_}
+use native.Mathlib.Decide.{decLt}
 use native.Mathlib.Omega.{arith}
-use lib.ListN.{length, replicate, length-replicate, getD-replicate}
+use lib.Bits.{bitAnd, and-zero-r}
+use lib.Count.{ones, ones-le}
+use lib.ListN.{length, getD, replicate, length-replicate, getD-replicate}
+use Rattle.grid.specs.Grid.{at, load, Reach, here, step}
 use Rattle.loads.specs.Relief.{Relieved, Widths}
 use Rattle.loads.specs.First.{Started}
 use Rattle.loads.specs.Meaning.{Places, seenAt}
@@ -14,13 +18,13 @@ use Rattle.loads.specs.StartLaws.{relieved-state, relieved-critical, relieved-n
 use Rattle.common.specs.Tests.{false-of-not-true}
 use Rattle.theory.specs.SumsOver.{sumOn, on-cong}
 use Rattle.theory.specs.Critical.{Critical}
-use Rattle.placing.specs.Schedules.{Demand, volumeOf, feasible}
-use Rattle.placing.specs.Shortfall.{forced, criticalSet}
-use Rattle.placing.specs.FeasibleLaws.{feasible-sound}
-use Rattle.placing.specs.CriticalLaws.{critical-as}
-use Rattle.placing.specs.Tabulate.{tab}
-use Rattle.placing.specs.AsFunctions.{free, sound-bounded}
-use Rattle.placing.specs.Certificates.{closed-forced}
+use Rattle.schedules.specs.Schedules.{Demand, volumeOf, feasible}
+use Rattle.schedules.specs.Shortfall.{forced, criticalSet}
+use Rattle.schedules.specs.FeasibleLaws.{feasible-sound}
+use Rattle.schedules.specs.CriticalLaws.{critical-as}
+use Rattle.schedules.specs.Tabulate.{tab}
+use Rattle.schedules.specs.AsFunctions.{free, sound-bounded}
+use Rattle.schedules.specs.Certificates.{closed-forced}
 use Rattle.placing.specs.Represents.{Represents, DemandWords, HighWords, Begun, marksOf, markedLoads}
 use Rattle.placing.specs.StepLaws.{state-bounds, represents-feasible}
 
@@ -35,7 +39,29 @@ critical-highs {n} {d} {f} {v} {x} {y} {R} e c =
     same : (Q : ℕ → Bool) → sumOn d Q x ≡ sumOn d Q y
     same Q = on-cong (λ t l. refl) e
 
+-- only from itself does one come to a slot in which nothing rests
+reach-rest : {F R : List ℕ} {s t : ℕ} → Reach F R s t → at R t ≡ 0 → s ≡ t
+reach-rest here z = refl
+reach-rest {F} {R} (step {x} {y} e p) z =
+    absurd (e (ap (λ w. bitAnd (at F x) w) (ap (at R) (reach-rest p z) ∙ z) ∙ and-zero-r (at F x)))
+
 module _ {W N F R H F′ R′ C′ S′ : List ℕ} {r : Bool} (h : length H ≡ 96) (s : Started W N F R) (w : Relieved r F R H F′ R′ S′) (c : Widths F′ R′ C′) where
+  -- past the day nothing is fed and nothing rests: no search begins or ends there
+  unmarked : r ≡ false → (slots : ℕ) (ds : List Demand) → DemandWords slots ds W N → (t : ℕ) → slots ≤ t
+      → getD S′ t 0 ≡ 0
+  unmarked e slots ds d t l = go (decLt 0 (getD S′ t 0))
+    where
+      none : at F′ t + at R′ t ≡ 0
+      none = places-moved (started-places (d .given) s) (w .moved) .day .past t l
+
+      go : Dec (0 < getD S′ t 0) → getD S′ t 0 ≡ 0
+      go (no m) = omega arith
+      go (yes m) =
+          let q = w .held e .stuck .source t m in
+          let f : at F′ t ≡ 0 = omega (arith, none) in
+          let z : at R′ t ≡ 0 = omega (arith, none) in
+          absurd (omega (arith, q .2, ap (load F′) (reach-rest (q .3) z), ap ones f, ones-le 0 0 (omega arith)))
+
   module _ (slots : ℕ) (ds : List Demand) (high : List ℕ) (d : DemandWords slots ds W N) (g : HighWords slots high H) where
     places : Places (length ds) slots (free ds) (volumeOf ds) F R
     places = started-places (d .given) s
@@ -76,6 +102,7 @@ module _ {W N F R H F′ R′ C′ S′ : List ℕ} {r : Bool} (h : length H ≡
       record {
         fed-long = w .moved .grid .fed;
         marks-long = λ e. w .held e .stuck .marks;
+        marks-past = unmarked;
         answer = λ slots ds high d g. answer slots ds high d g r refl;
         yes = λ e slots ds high d g. yes slots ds high d g e;
         marked = λ e slots ds high d g. marked slots ds high d g e;

@@ -1,4 +1,5 @@
--- The search asked about rations in flat numbers: their words, and the lows raised one slot after another. Assumes nothing.
+-- The search asked about demands in words: the words of rations, and the lows raised one slot after another. Assumes
+-- nothing.
 use mathlib.Core.Path.{_≡_, refl, sym, ap, _∙_, subst}
 use mathlib.Core.Bool.{Bool, true, false}
 use mathlib.Core.List.{List, [], _∷_, _++_, append-nil, append-assoc}
@@ -8,58 +9,59 @@ use native.Mathlib.Numerals.{add-one}
 use native.Mathlib.Omega.{arith}
 use lib.ListN.{length, getD, take, set, replicate, length-append, length-take, length-replicate, getD-replicate, List·getD-append}
 use lib.Seq.{length-take-le, getD-take, take-suc, set-append-seam, getD-append-add}
-use Rattle.sheet.specs.Limits.{maxSlots}
+use Rattle.checks.specs.Limits.{maxSlots}
 use Rattle.theory.specs.Placing.{size}
 use Rattle.loads.specs.StartLaws.{given-start}
-use Rattle.placing.specs.Slots.{window}
-use Rattle.placing.specs.Schedules.{Demand, Windows, windowOf, volumeOf, AtMost, feasible}
-use Rattle.placing.specs.Theorems.{infeasible-tighter}
-use Rattle.placing.specs.AsFunctions.{free, bound}
-use Rattle.placing.specs.Tabulate.{count-size}
+use Rattle.schedules.specs.Schedules.{Demand, windowOf, volumeOf, AtMost, feasible}
+use Rattle.schedules.specs.Theorems.{infeasible-tighter}
+use Rattle.schedules.specs.AsFunctions.{free, bound}
+use Rattle.schedules.specs.Tabulate.{count-size}
 use Rattle.placing.specs.Rations.{Rations, demandsFrom}
 use Rattle.placing.specs.RationLaws.{length-demandsFrom, rations-inRange}
 use Rattle.placing.specs.Words.{WindowWords, VolumeBytes}
-use Rattle.placing.specs.Represents.{Represents, Ready, raised, Busied, DemandWords, HighWords, CanBegin, Begun}
+use Rattle.placing.specs.Represents.{Represents, Ready, raised, Busied, CanBegin, Begun}
+use Rattle.placing.specs.Represents.{DemandWords, SomeDemands, HighWords}
 use Rattle.placing.specs.StepLaws.{represents-ready, represents-feasible}
 
--- ---- the words of rations
+-- ---- the words of demands
 
-module _ {slots n : ℕ} {numbers : List ℕ} (r : Rations slots n numbers) where
-  abbrev ds : List Demand
-  ds = demandsFrom slots n numbers
+module _ {slots n : ℕ} {numbers : List ℕ} (r : Rations slots n numbers) {W N : List ℕ}
+    (w : WindowWords slots (demandsFrom slots n numbers) W) (v : VolumeBytes (demandsFrom slots n numbers) N) where
+  pub demand-words : DemandWords slots (demandsFrom slots n numbers) W N
+  demand-words =
+      record {
+        windows = rations-inRange r .windows;
+        given =
+            record {
+              long = w .long;
+              short = r .short;
+              most = omega (arith, length-demandsFrom slots n numbers, r .few);
+              few = w .few;
+              past = w .past;
+              window = w .window;
+              volume-at = v .volume;
+              no-volume = λ j l k. v .past j l;
+            };
+      }
 
-  pub windows-demandsFrom : Windows slots (demandsFrom slots n numbers)
-  windows-demandsFrom = rations-inRange r .windows
+  pub ration-words : SomeDemands slots W N
+  ration-words = record { demands = demandsFrom slots n numbers; words = demand-words; fits = rations-inRange r .fits }
 
-  fits : (j : ℕ) → j < length (demandsFrom slots n numbers) → volumeOf (demandsFrom slots n numbers) j ≤ size slots (free (demandsFrom slots n numbers) j)
+module _ {slots : ℕ} {W N : List ℕ} (d : SomeDemands slots W N) where
+  pub some-short : slots ≤ maxSlots
+  some-short = d .words .given .short
+
+  fits : (j : ℕ) → j < length (d .demands) → volumeOf (d .demands) j ≤ size slots (free (d .demands) j)
   fits j l =
       omega (
         arith,
-        rations-inRange r .fits j l,
-        count-size (windowOf ds j),
-        ap (λ k. size k (free ds j)) (windows-demandsFrom .all-day j l),
+        d .fits j l,
+        count-size (windowOf (d .demands) j),
+        ap (λ k. size k (free (d .demands) j)) (d .words .windows .all-day j l),
       )
 
-  module _ {W N : List ℕ} (w : WindowWords slots (demandsFrom slots n numbers) W) (v : VolumeBytes (demandsFrom slots n numbers) N) where
-    pub demand-words : DemandWords slots (demandsFrom slots n numbers) W N
-    demand-words =
-        record {
-          windows = windows-demandsFrom;
-          given =
-              record {
-                long = w .long;
-                short = r .short;
-                most = omega (arith, length-demandsFrom slots n numbers, r .few);
-                few = w .few;
-                past = w .past;
-                window = w .window;
-                volume-at = v .volume;
-                no-volume = λ j l k. v .past j l;
-              };
-        }
-
-    pub can-begin : {H C : List ℕ} → length H ≡ maxSlots → length C ≡ maxSlots → CanBegin W N H C
-    can-begin h c = record { start = given-start (demand-words .given) h fits; spares = c }
+  pub can-begin : {H C : List ℕ} → length H ≡ maxSlots → length C ≡ maxSlots → CanBegin W N H C
+  can-begin h c = record { start = given-start (d .words .given) h fits; spares = c }
 
 pub high-words : {slots : ℕ} {H : List ℕ} → slots ≤ maxSlots → length H ≡ maxSlots → HighWords slots (take slots H) H
 high-words {slots} {H} s h =
@@ -171,20 +173,21 @@ module _ {slots : ℕ} {F₀ R₀ H C₀ F R C : List ℕ} (low : List ℕ) (k :
 
 -- ---- the answer
 
-module _ {slots n : ℕ} {numbers H W N F R C S : List ℕ} (low : List ℕ) (r : Rations slots n numbers) (k : length low ≡ maxSlots) (h : length H ≡ maxSlots)
-    (w : WindowWords slots (demandsFrom slots n numbers) W) (v : VolumeBytes (demandsFrom slots n numbers) N) {q : Bool} (b : Begun q W N H F R C S) where
-  pub begun-not : q ≡ false → false ≡ feasible slots (demandsFrom slots n numbers) (take slots low) (take slots H)
+module _ {slots : ℕ} {H W N F R C S : List ℕ} (low : List ℕ) (s : slots ≤ maxSlots) (k : length low ≡ maxSlots)
+    (h : length H ≡ maxSlots) {q : Bool} (b : Begun q W N H F R C S)
+    (ds : List Demand) (d : DemandWords slots ds W N) where
+  pub begun-not : q ≡ false → false ≡ feasible slots ds (take slots low) (take slots H)
   begun-not e =
-      sym (infeasible-tighter (windows-demandsFrom r) (replicate slots 0) (take slots H) (take slots low) (take slots H) (length-replicate slots 0)
-      (high-words (r .short) h .long) (length-take-le slots low (omega (arith, r .short))) (high-words (r .short) h .long)
+      sym (infeasible-tighter (d .windows) (replicate slots 0) (take slots H) (take slots low) (take slots H)
+      (length-replicate slots 0) (high-words s h .long) (length-take-le slots low (omega arith)) (high-words s h .long)
       zeros (λ t l. omega arith)
-      (sym (b .answer slots (demandsFrom slots n numbers) (take slots H) (demand-words r w v) (high-words (r .short) h)) ∙ e))
+      (sym (b .answer slots ds (take slots H) d (high-words s h)) ∙ e))
     where
       zeros : AtMost slots (replicate slots 0) (take slots low)
       zeros t l = omega (arith, getD-replicate {A = ℕ} slots t 0 0 l)
 
-  pub begun-day : q ≡ true → Represents slots (demandsFrom slots n numbers) (replicate slots 0) (take slots H) F R H C
-  begun-day e = b .yes e slots (demandsFrom slots n numbers) (take slots H) (demand-words r w v) (high-words (r .short) h)
+  pub begun-day : q ≡ true → Represents slots ds (replicate slots 0) (take slots H) F R H C
+  begun-day e = b .yes e slots ds (take slots H) d (high-words s h)
 
   pub begun-low-day : q ≡ true → LowDay slots F R H C
-  begun-low-day e = record { demands = demandsFrom slots n numbers; high = take slots H; under = begun-day e }
+  begun-low-day e = record { demands = ds; high = take slots H; under = begun-day e }

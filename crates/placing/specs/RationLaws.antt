@@ -5,13 +5,13 @@ use Prim.Native.Nat.{ℕ, _≤_, _<_}
 use native.Mathlib.Omega.{arith}
 use lib.ListN.{length, getD}
 use Rattle.common.specs.Lists.{count}
-use Rattle.sheet.specs.Limits.{maxSlots}
-use Rattle.placing.specs.Slots.{window}
-use Rattle.placing.specs.Schedules.{noDemand, windowOf, volumeOf}
+use Rattle.checks.specs.Limits.{maxSlots}
+use Rattle.schedules.specs.Slots.{window}
+use Rattle.schedules.specs.Schedules.{noDemand, windowOf, volumeOf}
 use Rattle.placing.specs.Rations.{releaseAt, deadlineAt, volumeAt, demandAt, demandsFrom, Rations}
-use Rattle.placing.specs.Tabulate.{length-tab, getD-tab}
-use Rattle.placing.specs.WindowLaws.{length-window, count-window}
-use Rattle.placing.specs.DemandLaws.{DemandsInRange}
+use Rattle.schedules.specs.Tabulate.{length-tab, getD-tab}
+use Rattle.schedules.specs.WindowLaws.{length-window, count-window}
+use Rattle.schedules.specs.DemandLaws.{DemandsInRange}
 
 pub length-demandsFrom : (slots n : ℕ) (numbers : List ℕ) → length (demandsFrom slots n numbers) ≡ n
 unfolding demandsFrom

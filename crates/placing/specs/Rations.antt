@@ -4,10 +4,11 @@ use mathlib.Core.Path.{_≡_}
 use mathlib.Core.List.{List}
 use Prim.Native.Nat.{ℕ, suc, _+_, _-_, _*_, _≤_, _<_}
 use lib.ListN.{length, getD}
-use Rattle.sheet.specs.Limits.{fields, maxSlots, maxRations}
-use Rattle.placing.specs.Slots.{window}
-use Rattle.placing.specs.Schedules.{Demand}
-use Rattle.placing.specs.Tabulate.{tab}
+use Rattle.line.specs.Layout.{fields}
+use Rattle.checks.specs.Limits.{maxSlots, maxRations}
+use Rattle.schedules.specs.Slots.{window}
+use Rattle.schedules.specs.Schedules.{Demand}
+use Rattle.schedules.specs.Tabulate.{tab}
 
 -- of ration j, from 0: its first slot, its last slot, its volume
 abbrev pub releaseAt : List ℕ → ℕ → ℕ

@@ -1,50 +1,27 @@
 -- What a reading gives this layer: the first refusal, or rations in range that ask what the sheet's rations ask. Assumes nothing.
 use mathlib.Core.Path.{_≡_, refl, sym, ap, subst, _∙_}
-use mathlib.Core.Bool.{Bool, true, false, cond}
+use mathlib.Core.Bool.{true}
 use mathlib.Core.List.{List, [], _∷_, _++_}
 use Prim.Native.Nat.{ℕ, zero, suc, _+_, _-_, _*_, _≤_, _<_}
 use native.Mathlib.Omega.{arith}
-use lib.Dec.{eqb}
 use lib.ListN.{length, getD, replicate, List·getD-append}
-use Rattle.sheet.specs.declared.Refusal.{Refusal}
+use Rattle.checks.specs.declared.Refusal.{Refusal}
 use Rattle.sheet.specs.declared.Reading.{Reading}
-use Rattle.sheet.specs.Limits.{fields, maxBlowers, maxRations}
-use Rattle.sheet.specs.Sheet.{Job, Sheet, sheetOf, numbersOf}
-use Rattle.sheet.specs.Checks.{firstRefusal, faults}
-use Rattle.sheet.specs.Calls.{padded, accepted, refused, readingOf}
-use Rattle.sheet.specs.RangeLaws.{ValuesInRange}
-use Rattle.sheet.specs.WellFormedLaws.{wellFormed-faults}
-use Rattle.sheet.specs.NumbersLaws.{length-numbersOf}
-use Rattle.sheet.specs.CallLaws.{readingOf-accepted, faults-readingOf}
-use Rattle.sheet.specs.CheckSteps.{first-left, first-right}
-use Rattle.sheet.specs.ReadSteps.{length-padded}
-use Rattle.placing.specs.Schedules.{noDemand}
-use Rattle.placing.specs.Demands.{demandOf, demandsOf}
+use Rattle.line.specs.Layout.{fields}
+use Rattle.checks.specs.Limits.{maxBlowers, maxRations}
+use Rattle.checks.specs.Sheet.{Job, Sheet, numbersOf}
+use Rattle.common.specs.Buffers.{padded}
+use Rattle.sheet.specs.Calls.{accepted}
+use Rattle.checks.specs.RangeLaws.{ValuesInRange}
+use Rattle.checks.specs.NumbersLaws.{length-numbersOf}
+use Rattle.sheet.specs.OwnChecks.{ReadFrom}
+use Rattle.sheet.specs.OwnCheckLaws.{read-is, read-values}
+use Rattle.common.specs.BufferLaws.{length-padded}
+use Rattle.schedules.specs.Schedules.{noDemand}
+use Rattle.schedules.specs.Demands.{demandOf, demandsOf}
 use Rattle.placing.specs.Rations.{demandAt, demandsFrom, Rations}
-use Rattle.placing.specs.Tabulate.{tab-unique}
-use Rattle.placing.specs.DemandLaws.{noJob, length-demandsOf, demandsOf-at, jobsInRange-at}
-
--- Refused ---------------------------------------------------------------------
-
-module _ (b : List ℕ) (r : Reading) (e : r ≡ readingOf b) where
-  read-refused : (r .number ≡ 0 → ⊥) → (r .number ≡ firstRefusal (faults b) .number) × (r .line ≡ firstRefusal (faults b) .line)
-  unfolding readingOf accepted refused
-  read-refused n = go (eqb (firstRefusal (faults b) .number) 0) refl e
-    where
-      go : (t : Bool) → eqb (firstRefusal (faults b) .number) 0 ≡ t → r ≡ cond t (accepted (sheetOf b)) (refused (firstRefusal (faults b)))
-          → (r .number ≡ firstRefusal (faults b) .number) × (r .line ≡ firstRefusal (faults b) .line)
-      go true q f = absurd (n (ap (λ x. x .number) f))
-      go false q f = (ap (λ x. x .number) f, ap (λ x. x .line) f)
-
-  -- a refused reading is the refusal of a call that makes further checks after
-  pub refused-before : (rest : List Refusal) → (r .number ≡ 0 → ⊥) → firstRefusal (faults b ++ rest) ≡ record { number = r .number; line = r .line }
-  refused-before rest n =
-      let f = read-refused n in
-      sym (first-left (faults b) rest (λ z. n (f .0 ∙ z))) ∙ (λ i. record { number = sym (f .0) i; line = sym (f .1) i })
-
-  -- an accepted reading leaves them to decide
-  pub accepted-before : (rest : List Refusal) → r .number ≡ 0 → firstRefusal (faults b ++ rest) ≡ firstRefusal rest
-  accepted-before rest z = first-right (faults b) rest (faults-readingOf b (sym (ap (λ x. x .number) e) ∙ z))
+use Rattle.schedules.specs.Tabulate.{tab-unique}
+use Rattle.schedules.specs.DemandLaws.{noJob, length-demandsOf, demandsOf-at, jobsInRange-at}
 
 -- Accepted --------------------------------------------------------------------
 
@@ -82,15 +59,15 @@ demandsFrom-sheet s =
       volume = sym (numbersOf-at (s .jobs) zs j 3 l (omega arith)) i;
     }))))
 
-rations-sheet : (s : Sheet) → ValuesInRange s (length (s .jobs)) true → Rations (s .slots) (length (s .jobs)) (padded (fields * maxRations) (numbersOf (s .jobs)))
+rations-sheet : {least : ℕ} (s : Sheet) → ValuesInRange least s (length (s .jobs)) true → Rations (s .slots) (length (s .jobs)) (padded (fields * maxRations) (numbersOf (s .jobs)))
 unfolding padded
-rations-sheet s v =
+rations-sheet {least} s v =
     record {
       short = v .head .slots .le;
       few = v .head .rations;
       long = length-padded (fields * maxRations) (numbersOf (s .jobs)) (omega (arith, length-numbersOf (s .jobs), v .head .rations));
       each = λ j l.
-          let r = jobsInRange-at (s .slots) 0 0 (s .jobs) (v .jobs) j l .2 in
+          let r = jobsInRange-at least (s .slots) 0 0 (s .jobs) (v .jobs) j l .2 in
           let zs : List ℕ = replicate (fields * maxRations - length (numbersOf (s .jobs))) 0 in
           let a = numbersOf-at (s .jobs) zs j 1 l (omega arith) in
           let d = numbersOf-at (s .jobs) zs j 2 l (omega arith) in
@@ -104,30 +81,25 @@ rations-sheet s v =
     }
 
 -- What a call knows of an accepted reading.
-pub record Read (b : List ℕ) (r : Reading) : Type 0 where
-  pub accepted : faults b ≡ []
-  pub slots : r .slots ≡ sheetOf b .slots
-  pub blowers : r .blowers ≡ sheetOf b .blowers
+pub record SheetRead (s : Sheet) (r : Reading) : Type 0 where
+  pub slots : r .slots ≡ s .slots
+  pub blowers : r .blowers ≡ s .blowers
   pub blown : r .blowers ≤ maxBlowers
   pub some : 1 ≤ r .slots
   pub rations : Rations (r .slots) (r .rations) (r .numbers)
-  pub demands : demandsFrom (r .slots) (r .rations) (r .numbers) ≡ demandsOf (sheetOf b)
+  pub demands : demandsFrom (r .slots) (r .rations) (r .numbers) ≡ demandsOf s
 
-accepted-read : (b : List ℕ) → faults b ≡ [] → Read b (accepted (sheetOf b))
+accepted-read : {least : ℕ} (s : Sheet) → ValuesInRange least s (length (s .jobs)) true → SheetRead s (accepted s)
 unfolding accepted
-accepted-read b f =
-    let v = wellFormed-faults b f .values in
+accepted-read s v =
     record {
-      accepted = f;
       slots = refl;
       blowers = refl;
       blown = v .head .blowers .le;
       some = v .head .slots .ge;
-      rations = rations-sheet (sheetOf b) v;
-      demands = demandsFrom-sheet (sheetOf b);
+      rations = rations-sheet s v;
+      demands = demandsFrom-sheet s;
     }
 
-pub read-accepted : (b : List ℕ) (r : Reading) → r ≡ readingOf b → r .number ≡ 0 → Read b r
-read-accepted b r e z =
-    let f = faults-readingOf b (sym (ap (λ x. x .number) e) ∙ z) in
-    subst (Read b) (sym (e ∙ readingOf-accepted b f)) (accepted-read b f)
+pub sheet-read : {own : List Refusal} {s : Sheet} {r : Reading} → ReadFrom own s r → r .number ≡ 0 → SheetRead s r
+sheet-read {own} {s} {r} h z = subst (SheetRead s) (sym (read-is h z)) (accepted-read s (read-values h z))

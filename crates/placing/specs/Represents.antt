@@ -1,20 +1,22 @@
 -- The words that this layer lends to those above: what they hold, without saying how. F and R are the grid, H the highs and C the spares that go with
 -- the lows, S the marks; with a stroke, as they are afterwards. Definitions only. Assumes nothing.
 use mathlib.Core.Path.{_≡_}
+use mathlib.Core.Logic.{_≢_}
 use mathlib.Core.Bool.{Bool, true, false}
 use mathlib.Core.List.{List}
-use Prim.Native.Nat.{ℕ, _-_, _<_, min, max}
+use Prim.Native.Nat.{ℕ, _-_, _≤_, _<_, min, max}
 use lib.Dec.{ltb}
 use lib.ListN.{length, getD, set, replicate}
+use Rattle.common.specs.Lists.{count}
 use Rattle.grid.specs.Grid.{at, load}
 use Rattle.loads.specs.Relief.{CanLower}
 use Rattle.loads.specs.Meaning.{State, Given, seenAt}
 use Rattle.loads.specs.First.{CanStart}
 use Rattle.theory.specs.SumsOver.{sumOn}
-use Rattle.placing.specs.Schedules.{Demand, Windows, volumeOf, feasible}
-use Rattle.placing.specs.Shortfall.{forced, criticalSet}
-use Rattle.placing.specs.Tabulate.{tab}
-use Rattle.placing.specs.AsFunctions.{free, bound}
+use Rattle.schedules.specs.Schedules.{Demand, Windows, windowOf, volumeOf, feasible}
+use Rattle.schedules.specs.Shortfall.{forced, criticalSet}
+use Rattle.schedules.specs.Tabulate.{tab}
+use Rattle.schedules.specs.AsFunctions.{free, bound}
 
 -- the words hold a sound placing of the demands under low and high
 pub record Represents (slots : ℕ) (ds : List Demand) (low high F R H C : List ℕ) : Type 0 where
@@ -37,6 +39,7 @@ raised low t k = set low t (max k (bound low t))
 
 -- `idle` answers whether a sound placing exists with the high of slot t at most k − 1, and leaves one under the bounds kept
 pub record Idled (r : Bool) (F R H C F′ R′ H′ : List ℕ) (t k : ℕ) : Type 0 where
+  pub others : (u : ℕ) → u ≢ t → getD H′ u 0 ≡ getD H u 0
   pub answer : (slots : ℕ) (ds : List Demand) (low high : List ℕ) → Represents slots ds low high F R H C → t < slots → r ≡ feasible slots ds low (lowered high t k)
   pub yes : r ≡ true → (slots : ℕ) (ds : List Demand) (low high : List ℕ) → Represents slots ds low high F R H C → t < slots
       → Represents slots ds low (lowered high t k) F′ R′ H′ C
@@ -56,17 +59,26 @@ pub record DemandWords (slots : ℕ) (ds : List Demand) (W N : List ℕ) : Type 
   pub windows : Windows slots ds
   pub given : Given (length ds) slots (free ds) (volumeOf ds) W N
 
+-- they are the words of some demands, each volume at most its window's length
+pub record SomeDemands (slots : ℕ) (W N : List ℕ) : Type 0 where
+  pub demands : List Demand
+  pub words : DemandWords slots demands W N
+  pub fits : (j : ℕ) → j < length demands → volumeOf demands j ≤ count (windowOf demands j)
+
 -- the highs, as words
 pub record HighWords (slots : ℕ) (high H : List ℕ) : Type 0 where
   pub long : length high ≡ slots
   pub same : (t : ℕ) → t < slots → at H t ≡ bound high t
 
--- the marked slots, and the feedings in them
+-- the marked slots, the feedings in them, and the sum of the highs over them
 abbrev pub marksOf : List ℕ → ℕ → Bool
 marksOf S t = ltb 0 (getD S t 0)
 
 unfoldable pub markedLoads : ℕ → List ℕ → List ℕ → ℕ
 markedLoads slots F S = sumOn slots (seenAt S) (load F)
+
+unfoldable pub markedHighs : ℕ → List ℕ → List ℕ → ℕ
+markedHighs slots H S = sumOn slots (seenAt S) (at H)
 
 -- what `begin` requires: each volume is at most its window's length, and the spares have a place for each slot
 pub record CanBegin (W N H C : List ℕ) : Type 0 where
@@ -78,6 +90,8 @@ pub record CanBegin (W N H C : List ℕ) : Type 0 where
 pub record Begun (r : Bool) (W N H F′ R′ C′ S′ : List ℕ) : Type 0 where
   pub fed-long : length F′ ≡ 96
   pub marks-long : r ≡ false → length S′ ≡ 96
+  pub marks-past : r ≡ false → (slots : ℕ) (ds : List Demand) → DemandWords slots ds W N → (t : ℕ) → slots ≤ t
+      → getD S′ t 0 ≡ 0
   pub answer : (slots : ℕ) (ds : List Demand) (high : List ℕ) → DemandWords slots ds W N → HighWords slots high H → r ≡ feasible slots ds (replicate slots 0) high
   pub yes : r ≡ true → (slots : ℕ) (ds : List Demand) (high : List ℕ) → DemandWords slots ds W N → HighWords slots high H
       → Represents slots ds (replicate slots 0) high F′ R′ H C′

@@ -1,5 +1,6 @@
 -- What the search says of one slot's bound, said of the demands: the answers of `idle` and `busy`. Assumes nothing.
 use mathlib.Core.Path.{_≡_, refl, sym, ap, _∙_, subst}
+use mathlib.Core.Logic.{_≢_}
 use mathlib.Core.Bool.{Bool, true, false, cond, true≢false, false≢true}
 use mathlib.Core.List.{List}
 use Prim.Native.Nat.{ℕ, _+_, _-_, _≤_, _<_, min, max}
@@ -16,10 +17,10 @@ use Rattle.loads.specs.MeaningLaws.{count-width}
 use Rattle.loads.specs.StateLaws.{state-placing, state-within, state-lower, state-raise, lowered-state, lowered-kept, lowered-none}
 use Rattle.loads.specs.RaiseLaws.{raised-state, raised-kept, raised-none}
 use Rattle.common.specs.Tests.{false-of-not-true}
-use Rattle.placing.specs.Schedules.{Demand, Windows, Sound, load as loadOf, feasible}
-use Rattle.placing.specs.FeasibleLaws.{feasible-sound}
-use Rattle.placing.specs.AsFunctions.{bound, sound-bounded}
-use Rattle.placing.specs.Certificates.{places-feasible}
+use Rattle.schedules.specs.Schedules.{Demand, Windows, Sound, load as loadOf, feasible}
+use Rattle.schedules.specs.FeasibleLaws.{feasible-sound}
+use Rattle.schedules.specs.AsFunctions.{bound, sound-bounded}
+use Rattle.schedules.specs.Certificates.{places-feasible}
 use Rattle.placing.specs.Represents.{Represents, Ready, lowered, raised, Idled, Busied}
 
 -- ---- bounds as lists and as functions
@@ -72,6 +73,7 @@ module _ {F R H C : List ℕ} {t k : ℕ} (p : 1 ≤ k) where
   pub idled-low : at C t + k ≤ width F R t → Idled false F R H C F R H t k
   idled-low h =
       record {
+        others = λ u n. refl;
         answer = λ slots ds low high s m.
             above-infeasible (s .windows) low (lowered high t k) (s .lows) (length-set high t _ ∙ s .highs) t m
             (rw (getD-set-same high t (min (k - 1) (bound high t)) 0 (rw (s .highs) m)) (omega (arith, low-width s t m)));
@@ -83,6 +85,7 @@ module _ {F R H C : List ℕ} {t k : ℕ} (p : 1 ≤ k) where
   pub idled-high : at H t < k → Idled true F R H C F R H t k
   idled-high h =
       record {
+        others = λ u n. refl;
         answer = λ slots ds low high s m. sym (ap (feasible slots ds low) (kept s m) ∙ represents-feasible s);
         yes = λ e slots ds low high s m. subst (λ x. Represents slots ds low x F R H C) (sym (kept s m)) s;
         no = λ e. absurd (true≢false e);
@@ -122,6 +125,7 @@ module _ {F R H C : List ℕ} {t k : ℕ} (p : 1 ≤ k) where
     pub idled-search : Idled r F R H C F′ R′ H′ t k
     idled-search =
         record {
+          others = λ u n. kept-high r refl u n;
           answer = λ slots ds low high s m. go r refl slots ds low high s m;
           yes = yes-state;
           no = λ e slots ds low high s m.
@@ -133,6 +137,10 @@ module _ {F R H C : List ℕ} {t k : ℕ} (p : 1 ≤ k) where
               };
         }
       where
+        kept-high : (b : Bool) → r ≡ b → (u : ℕ) → u ≢ t → getD H′ u 0 ≡ getD H u 0
+        kept-high true e u n = ap (λ h. getD h u 0) (w .done e .0) ∙ getD-set-other H t u (k - 1) 0 n
+        kept-high false e u n = ap (λ h. getD h u 0) (w .held e .0)
+
         go : (b : Bool) → r ≡ b → (slots : ℕ) (ds : List Demand) (low high : List ℕ) → Represents slots ds low high F R H C → t < slots
             → r ≡ feasible slots ds low (lowered high t k)
         go true e slots ds low high s m = e ∙ sym (represents-feasible (yes-state e slots ds low high s m))

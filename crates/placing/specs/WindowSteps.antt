@@ -13,14 +13,14 @@ use lib.ListN.{length, getD, set, replicate, length-set, length-replicate}
 use lib.Seq.{getD-set-same, getD-set-other}
 use borrow.Author.Tests.{le-leb, lt-leb, leb-true, lt-ltb, le-ltb, ltb-true, ltb-false}
 use Rattle.common.specs.Bits.{bit, add-same, add-other}
-use Rattle.sheet.specs.Limits.{maxSlots, maxRations}
+use Rattle.checks.specs.Limits.{maxSlots, maxRations}
 use Rattle.theory.specs.SumsOver.{one, pick}
-use Rattle.placing.specs.Slots.{has, window}
+use Rattle.schedules.specs.Slots.{has, window}
 use Rattle.placing.specs.Rations.{releaseAt, deadlineAt, volumeAt, demandsFrom, Rations}
 use Rattle.placing.specs.Words.{WindowWords, VolumeBytes, inWindow, CanMark, Marked}
 use Rattle.placing.specs.RationLaws.{length-demandsFrom, windowOf-demandsFrom, volumeOf-demandsFrom}
-use Rattle.placing.specs.FillLaws.{getD-zeros, FilledTo}
-use Rattle.placing.specs.WindowLaws.{has-window}
+use Rattle.common.specs.FillLaws.{getD-zeros, FilledTo}
+use Rattle.schedules.specs.WindowLaws.{has-window}
 
 -- One window --------------------------------------------------------------------
 

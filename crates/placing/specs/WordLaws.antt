@@ -10,13 +10,13 @@ use lib.ListN.{getD}
 use lib.Pow.{pow-mono}
 use borrow.Author.Tests.{lt-leb}
 use Rattle.common.specs.Bits.{bit, bit-le, some-bit}
-use Rattle.sheet.specs.Limits.{maxSlots}
+use Rattle.checks.specs.Limits.{maxSlots}
 use Rattle.theory.specs.SumsOver.{one}
-use Rattle.placing.specs.Slots.{has}
-use Rattle.placing.specs.Schedules.{windowOf}
+use Rattle.schedules.specs.Slots.{has}
+use Rattle.schedules.specs.Schedules.{windowOf}
 use Rattle.placing.specs.Rations.{releaseAt, deadlineAt, demandsFrom, Rations}
 use Rattle.placing.specs.Words.{WindowWords, VolumeBytes, inWindow}
-use Rattle.placing.specs.WindowLaws.{has-window}
+use Rattle.schedules.specs.WindowLaws.{has-window}
 use Rattle.placing.specs.RationLaws.{length-demandsFrom, windowOf-demandsFrom, volumeOf-demandsFrom}
 
 -- a word below 2 ^ n without a bit below n is 0

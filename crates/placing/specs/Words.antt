@@ -7,10 +7,10 @@ use Prim.Native.Nat.{ℕ, suc, _+_, _^_, _≤_, _<_}
 use lib.Dec.{leb}
 use lib.ListN.{length, getD}
 use Rattle.common.specs.Bits.{bit}
-use Rattle.sheet.specs.Limits.{maxSlots, maxRations}
+use Rattle.checks.specs.Limits.{maxSlots, maxRations}
 use Rattle.theory.specs.SumsOver.{one, pick}
-use Rattle.placing.specs.Slots.{has}
-use Rattle.placing.specs.Schedules.{Demand, windowOf, volumeOf}
+use Rattle.schedules.specs.Slots.{has}
+use Rattle.schedules.specs.Schedules.{Demand, windowOf, volumeOf}
 
 -- the words of the windows, and no other bit
 pub record WindowWords (slots : ℕ) (ds : List Demand) (W : List ℕ) : Type 0 where

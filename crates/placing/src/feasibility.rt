@@ -1,15 +1,10 @@
 // Whether a sound placing exists under a low and a high for each slot: the highs first, then the lows, one slot after another.
 use crate::begin;
 use crate::steps;
-use crate::windows;
 ghost use mathlib.Core.Path.{_≡_};
-ghost use mathlib.Core.List.{List};
 ghost use Prim.Native.Nat.{_≤_};
-ghost use lib.ListN.{length, take, replicate};
-ghost use Rattle.placing.specs.Schedules.{Demand, feasible};
-ghost use Rattle.placing.specs.Rations.{demandsFrom};
-ghost use Rattle.placing.specs.FeasibilityParts.{CanAsk};
-ghost use Rattle.placing.specs.Represents.{Represents};
+ghost use lib.ListN.{length};
+ghost use Rattle.placing.specs.FeasibilityParts.{CanAsk, WordsAnswered};
 ghost use Rattle.placing.specs.FeasibilitySteps.{LowDay, LowsRaised};
 
 // Raises the low of every slot, from words whose lows are 0; false at the first one that can't be raised.
@@ -33,26 +28,26 @@ fn raise_lows(
     true
 }
 
-// Whether a sound placing of n rations exists under the lows and highs.
+// Whether a sound placing exists under the lows and highs. Bit j of `windows[t]` says that slot t is in the window of
+// ration j, `volumes[j]` in how many slots it is to be fed.
 pub fn is_feasible(
     slots: usize,
-    n: usize,
-    numbers: &[u32; 256],
+    windows: &[u64; 96],
+    volumes: &[u8; 64],
     low: &[u8; 96],
     high: &[u8; 96],
 ) -> bool
-    requires { ⌜ CanAsk slots n (now numbers) (now low) (now high) ⌝ }
-    ensures { λ r. ⌜ r ≡ feasible slots (demandsFrom slots n (now (numbers .entry))) (take slots (now (low .entry))) (take slots (now (high .entry))) ⌝ }
+    requires { ⌜ CanAsk slots (now windows) (now volumes) (now low) (now high) ⌝ }
+    ensures { λ r. ⌜ WordsAnswered r slots (now (windows .entry)) (now (volumes .entry))
+        (now (low .entry)) (now (high .entry)) ⌝ }
 {
-    let words = windows::windows_of(n, numbers);
-    let volumes = windows::volumes_of(n, numbers);
     let mut fed = [0u64; 96];
     let mut rest = [0u64; 96];
     let mut spare = [0u8; 96];
     let mut seen = [0u8; 96];
     if !begin::begin(
-        &words,
-        &volumes,
+        windows,
+        volumes,
         high,
         &mut fed,
         &mut rest,

@@ -1,5 +1,7 @@
 // Windows in words: a word for each slot, in which bit j says that the slot is in the window of ration j.
-ghost use Rattle.sheet.specs.Limits.{maxSlots};
+ghost use mathlib.Core.Path.{_≡_};
+ghost use lib.ListN.{replicate};
+ghost use Rattle.checks.specs.Limits.{maxSlots};
 ghost use Rattle.placing.specs.Rations.{demandsFrom, Rations};
 ghost use Rattle.placing.specs.Words.{CanMark, Marked, WindowWords, VolumeBytes};
 
@@ -15,24 +17,23 @@ fn mark_window(windows: &mut [u64; 96], j: u32, release: usize, deadline: usize)
     }
 }
 
-// The windows of n rations, in a day as long as can be: words past the last deadline are 0.
-pub fn windows_of(n: usize, numbers: &[u32; 256]) -> [u64; 96]
-    requires { ⌜ Rations maxSlots n (now numbers) ⌝ }
-    ensures { λ r. ⌜ WindowWords maxSlots (demandsFrom maxSlots n (now (numbers .entry))) r ⌝ }
+// The windows of n rations into words that are 0, in a day as long as can be: words past the last deadline stay 0. The
+// words are lent, so that they are not copied on the way back.
+pub fn mark_windows(windows: &mut [u64; 96], n: usize, numbers: &[u32; 256])
+    requires { ⌜ Rations maxSlots n (now numbers) × (now windows ≡ replicate maxSlots 0) ⌝ }
+    ensures { λ _. ⌜ WindowWords maxSlots (demandsFrom maxSlots n (now (numbers .entry))) (now (windows .exit)) ⌝ }
 {
-    let mut windows = [0u64; 96];
     let mut j = 0;
     while j < n {
         let at = 4 * j;
         mark_window(
-            &mut windows,
+            windows,
             j as u32,
             numbers[at + 1] as usize,
             numbers[at + 2] as usize,
         );
         j += 1;
     }
-    windows
 }
 
 // The volumes of n rations, 0 past the last.

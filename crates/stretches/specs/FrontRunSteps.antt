@@ -7,7 +7,7 @@ use native.Mathlib.Omega.{arith}
 use lib.Dec.{leb}
 use lib.ListN.{length, getD}
 use Rattle.common.specs.ListLaws.{part-none}
-use Rattle.stretches.specs.FrontRunLaws.{busyFrom, busyFrom-cons, frontRun, EndsAt, endsAt-frontRun}
+use Rattle.method.specs.FrontRunLaws.{busyFrom, busyFrom-cons, frontRun, EndsAt, endsAt-frontRun}
 
 -- the counts of a day's slots, and a place in the day
 pub record CanScan (counts : List ℕ) (slots from : ℕ) : Type 0 where

@@ -1,38 +1,6 @@
--- Parallel Left-to-Right. First the definitions, then the main theorems, then the laws that prove them. Each file's head says in a sentence what it is
--- about.
-pub mod Method
-pub mod Feedings
-pub mod Intervals
-pub mod Keeping
-pub mod SettledRuns
-pub mod Worded
-pub mod Slotwise
-pub mod FeedingResidual
+-- A day planned in words, and the stretches read off its counts. Each file's head says in a sentence what it is about.
 pub mod Settling
-pub mod FeedingCalls
 pub mod Days
-pub mod Theorems
-pub mod SlotwiseLaws
-pub mod SettleLaws
-pub mod SettledRunsLaws
-pub mod KeepingLaws
-pub mod IntervalLaws
-pub mod StepLaws
-pub mod WordedLaws
-pub mod LongestLaws
-pub mod RunLaws
-pub mod Cases
-pub mod FeedingCells
-pub mod FeedingLaws
-pub mod FeedingUndecided
-pub mod FeedingAmounts
-pub mod FeedingFix
-pub mod FeedingResidualLaws
-pub mod FeedingChoose
-pub mod FeedingFunctions
-pub mod FeedingState
 pub mod SettlingLaws
-pub mod FeedingLoopLaws
 pub mod DayLaws
-pub mod FrontRunLaws
 pub mod FrontRunSteps

@@ -1,13 +1,15 @@
 -- What the code of the method requires and ensures, over words that hold a sound placing under bounds: F, R, H and C as crate `placing` names them, with a
 -- stroke as they are afterwards. Definitions only. Assumes nothing.
 use mathlib.Core.Path.{_≡_}
+use mathlib.Core.Logic.{_≢_}
 use mathlib.Core.Bool.{Bool, false}
 use mathlib.Core.List.{List}
-use Prim.Native.Nat.{ℕ, _-_, _<_}
-use Rattle.placing.specs.Schedules.{Demand}
+use Prim.Native.Nat.{ℕ, _-_, _≤_, _<_}
+use lib.ListN.{getD}
+use Rattle.schedules.specs.Schedules.{Demand}
 use Rattle.placing.specs.Represents.{Represents}
-use Rattle.stretches.specs.Method.{Bounds}
-use Rattle.stretches.specs.Slotwise.{keepAt, busyAt, settleFrom, settleEach}
+use Rattle.method.specs.Method.{Bounds}
+use Rattle.method.specs.Slotwise.{keepAt, busyAt, settleFrom, settleEach}
 
 -- the words hold a sound placing of the demands under these bounds
 abbrev pub Under : (slots : ℕ) → List Demand → Bounds → (F R H C : List ℕ) → Type 0
@@ -29,14 +31,23 @@ pub record SomeSlot (t : ℕ) (F R H C : List ℕ) : Type 0 where
 pub record Stepped (r : Bool) (k : ℕ) (busy : Bool) (t : ℕ) (F R H C F′ R′ H′ C′ : List ℕ) : Type 0 where
   pub does : (slots : ℕ) (ds : List Demand) (b : Bounds) → Under slots ds b F R H C → t < slots → r ≡ busyAt slots ds k busy t b
   pub keeps : (slots : ℕ) (ds : List Demand) (b : Bounds) → Under slots ds b F R H C → t < slots → Under slots ds (keepAt k r t b) F′ R′ H′ C′
+  pub others : (u : ℕ) → u ≢ t → getD H′ u 0 ≡ getD H u 0
+
+-- the highs past the day are as they were
+abbrev pub SamePast : (slots : ℕ) (H H′ : List ℕ) → Type 0
+SamePast slots H H′ = (u : ℕ) → slots ≤ u → getD H′ u 0 ≡ getD H u 0
 
 -- what `settle_blower` ensures: blower k is settled in every slot
-abbrev pub Settled : (slots k : ℕ) (F R H C F′ R′ H′ C′ : List ℕ) → Type 0
-Settled slots k F R H C F′ R′ H′ C′ = (ds : List Demand) (b : Bounds) → Under slots ds b F R H C → Under slots ds (settleFrom slots ds k false slots 0 b) F′ R′ H′ C′
+pub record Settled (slots k : ℕ) (F R H C F′ R′ H′ C′ : List ℕ) : Type 0 where
+  pub settled : (ds : List Demand) (b : Bounds) → Under slots ds b F R H C
+      → Under slots ds (settleFrom slots ds k false slots 0 b) F′ R′ H′ C′
+  pub past : SamePast slots H H′
 
 -- what `settle` ensures: so are all blowers
-abbrev pub AllSettled : (slots m : ℕ) (F R H C F′ R′ H′ C′ : List ℕ) → Type 0
-AllSettled slots m F R H C F′ R′ H′ C′ = (ds : List Demand) (b : Bounds) → Under slots ds b F R H C → Under slots ds (settleEach slots ds m b) F′ R′ H′ C′
+pub record AllSettled (slots m : ℕ) (F R H C F′ R′ H′ C′ : List ℕ) : Type 0 where
+  pub settled : (ds : List Demand) (b : Bounds) → Under slots ds b F R H C
+      → Under slots ds (settleEach slots ds m b) F′ R′ H′ C′
+  pub past : SamePast slots H H′
 
 -- blower k is settled in the slots before slot t + 1, up to which it is idle or busy: what is left to settle is what is left of the whole
 pub record Left (slots k : ℕ) (busy : Bool) (t : ℕ) (ds : List Demand) (b : Bounds) (F R H C : List ℕ) : Type 0 where

@@ -5,12 +5,12 @@ use mathlib.Core.List.{List}
 use Prim.Native.Nat.{ℕ, zero, suc, _+_, _-_, _≤_, _<_}
 use native.Mathlib.Numerals.{add-one}
 use native.Mathlib.Omega.{arith}
-use Rattle.placing.specs.Schedules.{Demand}
+use Rattle.schedules.specs.Schedules.{Demand}
 use Rattle.placing.specs.Represents.{Ready, Idled, Busied}
 use Rattle.placing.specs.StepLaws.{represents-feasible, represents-ready}
-use Rattle.stretches.specs.Method.{Bounds, FeasibleDay, feasibleUnder}
-use Rattle.stretches.specs.Slotwise.{keepAt, settleFrom, settleEach}
-use Rattle.stretches.specs.StepLaws.{other-possible, busyAt-stays, busyAt-changes}
+use Rattle.method.specs.Method.{Bounds, FeasibleDay, feasibleUnder}
+use Rattle.method.specs.Slotwise.{keepAt, settleFrom, settleEach}
+use Rattle.method.specs.StepLaws.{other-possible, busyAt-stays, busyAt-changes}
 use Rattle.stretches.specs.Settling.{Under, SomeDay, SomeSlot, Stepped, Settled, Left, LeftBlowers, Passing, PassingBlowers}
 
 -- words that hold a day say that it has a sound placing
@@ -44,6 +44,7 @@ module _ {t k : ℕ} {F R H C : List ℕ} where
       record {
         does = λ slots ds b u l. sym (busyAt-stays slots ds k false t b (sym (i .answer slots ds (b .low) (b .high) u l) ∙ e));
         keeps = λ slots ds b u l. i .yes e slots ds (b .low) (b .high) u l;
+        others = i .others;
       }
 
   -- it stays busy
@@ -52,6 +53,7 @@ module _ {t k : ℕ} {F R H C : List ℕ} where
       record {
         does = λ slots ds b u l. sym (busyAt-stays slots ds k true t b (sym (i .answer slots ds (b .low) (b .high) u l) ∙ e));
         keeps = λ slots ds b u l. i .yes e slots ds (b .low) (b .high) u l;
+        others = λ u n. refl;
       }
 
   -- it can't stay idle, and so it can be busy
@@ -64,6 +66,7 @@ module _ {t k : ℕ} {F R H C : List ℕ} where
             let v = i .no e slots ds (b .low) (b .high) u l in
             j .yes (j .answer slots ds (b .low) (b .high) v l ∙ other-possible (u .windows) k false t (under-possible u) l (cannot slots ds b u l))
             slots ds (b .low) (b .high) v l;
+        others = i .others;
       }
     where
       cannot : (slots : ℕ) (ds : List Demand) (b : Bounds) → Under slots ds b F R H C → t < slots → feasibleUnder slots ds (keepAt k false t b) ≡ false
@@ -79,6 +82,7 @@ module _ {t k : ℕ} {F R H C : List ℕ} where
             let v = i .no e slots ds (b .low) (b .high) u l in
             j .yes (j .answer slots ds (b .low) (b .high) v l ∙ other-possible (u .windows) k true t (under-possible u) l (cannot slots ds b u l))
             slots ds (b .low) (b .high) v l;
+        others = j .others;
       }
     where
       cannot : (slots : ℕ) (ds : List Demand) (b : Bounds) → Under slots ds b F R H C → t < slots → feasibleUnder slots ds (keepAt k true t b) ≡ false
@@ -139,7 +143,7 @@ module _ {slots m : ℕ} where
       rw (pred k)
       (record {
         bounds = settleFrom slots ds (suc k) false slots 0 (p .bounds);
-        under = s ds (p .bounds) (p .under);
+        under = s .settled ds (p .bounds) (p .under);
         same = p .same;
       })
     where

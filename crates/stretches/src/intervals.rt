@@ -3,7 +3,7 @@ ghost use mathlib.Core.Path.{_≡_};
 ghost use mathlib.Core.Bool.{Bool·beq};
 ghost use lib.Dec.{leb};
 ghost use Rattle.stretches.specs.FrontRunSteps.{CanScan};
-ghost use Rattle.stretches.specs.FrontRunLaws.{EndsAt};
+ghost use Rattle.method.specs.FrontRunLaws.{EndsAt};
 
 // Whether a blower is busy in a slot with this count.
 pub fn is_busy(blower: u32, count: u8) -> bool

@@ -1,10 +1,13 @@
 // Stretches: which blowers are busy in which slot, by Parallel Left-to-Right, and which rations are fed there.
 //
-// `settle` takes the blowers from the last down to the first, and each from slot 1 on: idle as long as a sound placing exists, then busy as long as one
-// exists, and so on. It asks crate `placing` one question for each slot, and a second one where the blower changes over. At the end every slot's low equals
-// its high: that is its count. That one slot more at a time settles the longest runs of document 01 is a theorem (specs/Theorems.antt). For the layers above:
-// the functions ask for rations and counts in range.
-mod feedings;
+// `settle` takes the blowers from the last down to the first, and each from slot 1 on: idle as long as a sound
+// placing exists, then busy as long as one exists, and so on. It asks crate `placing` one question for each slot, and
+// a second one where the blower changes over. At the end every slot's low equals its high: that is its count. That
+// one slot more at a time settles the longest runs of document 01 is a theorem (specs/Theorems.antt of `method`).
+// Which rations are fed is chosen by crate `feedings`.
+//
+// `plan_words` plans any windows, volumes and highs, and `plan_day` a sheet's rations with every blower in every
+// slot. For the layers above: the functions ask for words of some demands, or for rations and counts in range.
 mod intervals;
 mod planning;
 mod settle;
@@ -12,6 +15,7 @@ mod settle;
 pub use intervals::is_busy;
 pub use intervals::stretch_end;
 pub use planning::plan_day;
+pub use planning::plan_words;
 
 // A day planned, or held for want of blowers.
 pub struct Day {
@@ -24,4 +28,6 @@ pub struct Day {
     pub marks: [u8; 96],
     // of a held day: the feedings forced into these slots
     pub forced: u32,
+    // of a held day: the sum of the highs over these slots
+    pub capacity: u32,
 }

@@ -1,14 +1,12 @@
-// A whole day: from rations in flat numbers to counts and feedings, or to the slots that show why it is held.
+// A whole day: from windows, volumes and highs to counts and feedings, or to the slots that show why it is held.
 use crate::Day;
-use crate::feedings;
 use crate::settle;
 use placing::begin;
 use placing::held;
 use placing::windows;
-ghost use mathlib.Core.Path.{_≡_};
-ghost use Prim.Native.Nat.{_≤_};
+ghost use lib.ListN.{replicate};
 ghost use Rattle.placing.specs.Rations.{Rations, demandsFrom};
-ghost use Rattle.stretches.specs.Days.{CanChooseDay, DayChosen, DayPlanned};
+ghost use Rattle.stretches.specs.Days.{CanChooseDay, DayChosen, DayPlanned, CanPlan, WordsPlanned};
 
 // Settles the blowers and chooses the feedings, from words that hold a sound placing; gives the counts.
 fn choose_day(
@@ -22,7 +20,7 @@ fn choose_day(
     blowers: u8,
     rations: usize,
 ) -> [u8; 96]
-    requires { ⌜ CanChooseDay slots rations (now fed) (now rest) (now high) (now spare) ⌝ }
+    requires { ⌜ CanChooseDay slots rations (now fed) (now rest) (now high) (now spare) (now chosen) ⌝ }
     ensures { λ r. ⌜ DayChosen slots blowers rations (now (fed .entry)) (now (rest .entry)) (now (high .entry)) (now (spare .entry)) r (now (chosen .exit)) ⌝ }
 {
     settle::settle(fed, rest, high, spare, seen, slots, blowers);
@@ -31,27 +29,34 @@ fn choose_day(
     counts
 }
 
-// Plans a day of so many slots and blowers.
-pub fn plan_day(slots: usize, blowers: u8, rations: usize, numbers: &[u32; 256]) -> Day
-    requires { ⌜ Rations slots rations (now numbers) ⌝ }
-    ensures { λ r. ⌜ DayPlanned r slots blowers (demandsFrom slots rations (now (numbers .entry))) ⌝ }
+// Plans a day of so many slots and blowers. Bit j of `windows[t]` says that slot t is in the window of ration j,
+// `volumes[j]` in how many slots it is to be fed, `highs[t]` how many feedings slot t can hold: at most the blowers.
+pub fn plan_words(
+    slots: usize,
+    blowers: u8,
+    rations: usize,
+    windows: &[u64; 96],
+    volumes: &[u8; 64],
+    highs: &[u8; 96],
+) -> Day
+    requires { ⌜ CanPlan slots rations (now windows) (now volumes) (now highs) ⌝ }
+    ensures { λ r. ⌜ WordsPlanned r slots blowers rations (now (windows .entry)) (now (volumes .entry))
+        (now (highs .entry)) ⌝ }
 {
-    let words = windows::windows_of(rations, numbers);
-    let volumes = windows::volumes_of(rations, numbers);
-    let mut high = held::full_highs(slots, blowers);
     let mut fed = [0u64; 96];
     let mut rest = [0u64; 96];
     let mut spare = [0u8; 96];
     let mut seen = [0u8; 96];
     if begin::begin(
-        &words,
-        &volumes,
-        &high,
+        windows,
+        volumes,
+        highs,
         &mut fed,
         &mut rest,
         &mut spare,
         &mut seen,
     ) {
+        let mut high = *highs;
         let mut chosen = [0u64; 96];
         let counts = choose_day(
             &mut fed,
@@ -70,14 +75,31 @@ pub fn plan_day(slots: usize, blowers: u8, rations: usize, numbers: &[u32; 256])
             fed: chosen,
             marks: [0u8; 96],
             forced: 0,
+            capacity: 0,
         };
     }
     let forced = held::marked_loads(slots, &fed, &seen);
+    let capacity = held::marked_highs(slots, highs, &seen);
     Day {
         held: true,
         counts: [0u8; 96],
         fed: [0u64; 96],
         marks: seen,
         forced,
+        capacity,
     }
+}
+
+// Plans a day of rations in flat numbers, with every blower in every slot.
+pub fn plan_day(slots: usize, blowers: u8, rations: usize, numbers: &[u32; 256]) -> Day
+    requires { ⌜ Rations slots rations (now numbers) ⌝ }
+    ensures { λ r. ⌜ DayPlanned r slots blowers (demandsFrom slots rations (now (numbers .entry)))
+        (replicate slots blowers) ⌝ }
+{
+    let mut words = [0u64; 96];
+    windows::mark_windows(&mut words, rations, numbers);
+    let volumes = windows::volumes_of(rations, numbers);
+    let mut high = [0u8; 96];
+    held::set_highs(&mut high, slots, blowers);
+    plan_words(slots, blowers, rations, &words, &volumes, &high)
 }

@@ -2,7 +2,7 @@
 use mathlib.Core.Path.{_≡_}
 use Prim.Native.Nat.{_≤_, _-_, _*_}
 use lib.ListN.{length}
-use Rattle.sheet.specs.Limits.{maxSlots}
+use Rattle.checks.specs.Limits.{maxSlots}
 use Rattle.placing.specs.Represents.{markedLoads}
 use Rattle.placing.specs.HeldSteps.{loads-begin, loads-next}
 use native.Mathlib.Omega.{arith}

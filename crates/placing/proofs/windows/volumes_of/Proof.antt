@@ -1,9 +1,9 @@
 -- `placing::windows::volumes_of` meets its contract: after j rations it has their volumes. Assumes nothing.
 use mathlib.Core.Path.{refl}
 use Prim.Native.Nat.{_-_, _≤_}
-use Rattle.sheet.specs.Limits.{maxRations}
+use Rattle.checks.specs.Limits.{maxRations}
 use Rattle.placing.specs.Rations.{volumeAt}
-use Rattle.placing.specs.FillLaws.{FilledTo, filled-begin, filled-next}
+use Rattle.common.specs.FillLaws.{FilledTo, filled-begin, filled-next}
 use Rattle.placing.specs.RationLaws.{volume-small}
 use Rattle.placing.specs.WindowSteps.{volumes-end}
 use native.Mathlib.Omega.{arith}

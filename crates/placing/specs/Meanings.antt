@@ -1,8 +1,0 @@
--- Whoever says `unfolding meanings` has windows, placings and sets of slots computed: for tables of days. Assumes nothing.
-use Rattle.placing.specs.Slots.{window, inside, outside, sumOver, subsets}
-use Rattle.placing.specs.Schedules.{load, choices, schedules, atMost, within, feasible}
-use Rattle.placing.specs.Shortfall.{forced, shortfall, possible, excess, greatest, inEveryGreatest, criticalSet}
-
-unfoldable pub meanings : Unit {0}
-unfolding window inside outside sumOver subsets load choices schedules atMost within feasible forced shortfall possible excess greatest inEveryGreatest criticalSet
-meanings = tt
