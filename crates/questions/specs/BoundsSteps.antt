@@ -10,27 +10,32 @@ use lib.ListN.{length, getD, take, drop, length-map}
 use lib.Seq.{length-take-le, getD-take}
 use borrow.Author.Tests.{le-leb, lt-leb, eqb-true, ne-eqb, not-false}
 use Rattle.common.specs.Lists.{every, zipWith}
-use Rattle.sheet.specs.declared.Refusal.{Refusal}
+use Rattle.checks.specs.declared.Refusal.{Refusal}
 use Rattle.sheet.specs.declared.Reading.{Reading}
-use Rattle.sheet.specs.Limits.{maxSlots, maxBlowers}
-use Rattle.sheet.specs.Sheet.{sheetOf}
-use Rattle.sheet.specs.Checks.{fault, firstRefusal}
-use Rattle.sheet.specs.Calls.{padded, readingOf}
-use Rattle.common.specs.Tests.{or-false}
-use Rattle.sheet.specs.ReadSteps.{length-padded}
-use Rattle.common.specs.Tests.{false-of-not-true}
-use Rattle.placing.specs.Schedules.{Demand, Windows, atMost, feasible}
-use Rattle.placing.specs.Demands.{demandsOf}
-use Rattle.questions.specs.Calls.{boundsFault, boundsRefusal, cutHighs, sheetFeasible, boundsOf}
+use Rattle.checks.specs.Limits.{maxSlots, maxBlowers}
+use Rattle.checks.specs.Refusals.{badList}
+use Rattle.checks.specs.Sheet.{Sheet}
+use Rattle.checks.specs.Checks.{fault, firstRefusal}
+use Rattle.common.specs.Buffers.{padded}
+use Rattle.sheet.specs.OwnChecks.{ReadFrom}
+use Rattle.sheet.specs.OwnCheckLaws.{refused-before, accepted-before}
+use Rattle.common.specs.Tests.{or-false, false-of-not-true}
+use Rattle.common.specs.BufferLaws.{length-padded}
+use Rattle.schedules.specs.Schedules.{Demand, Windows, atMost, feasible}
+use Rattle.schedules.specs.Demands.{demandsOf}
+use Rattle.questions.specs.Calls.{boundsFault, boundsRefusal, cutHighs, sheetFeasible, boundsFor}
 use Rattle.placing.specs.Rations.{demandsFrom}
-use Rattle.placing.specs.FeasibilityParts.{CanAsk}
+use Rattle.placing.specs.Words.{WindowWords, VolumeBytes}
+use Rattle.placing.specs.WordLaws.{windows-of-day, volumes-of-day}
+use Rattle.placing.specs.FeasibilityParts.{CanAsk, WordsAnswered}
+use Rattle.placing.specs.FeasibilitySteps.{demand-words, ration-words}
 use Rattle.questions.specs.BoundsParts.{SmallLows}
-use Rattle.placing.specs.Tabulate.{getD-map-below, length-zipWith, getD-zipWith, atMost-at, at-atMost}
-use Rattle.placing.specs.FeasibleLaws.{feasible-sound}
-use Rattle.placing.specs.DemandLaws.{windows-demandsOf}
-use Rattle.placing.specs.ReadLaws.{refused-before, accepted-before, Read, read-accepted}
-use Rattle.questions.specs.EveryLaws.{every-miss, every-hit, every-end}
-use Rattle.placing.specs.FillLaws.{FilledTo, filled-end, getD-padded, padded-past, take-padded}
+use Rattle.schedules.specs.Tabulate.{getD-map-below, length-zipWith, getD-zipWith, atMost-at, at-atMost}
+use Rattle.schedules.specs.FeasibleLaws.{feasible-sound}
+use Rattle.schedules.specs.DemandLaws.{windows-demandsOf}
+use Rattle.placing.specs.ReadLaws.{SheetRead, sheet-read}
+use Rattle.marks.specs.EveryLaws.{every-miss, every-hit, every-end}
+use Rattle.common.specs.FillLaws.{FilledTo, filled-end, getD-padded, padded-past, take-padded}
 
 -- The highs, cut ------------------------------------------------------------------
 
@@ -96,31 +101,36 @@ disordered-infeasible {slots} {ds} w low high l h e =
 
 -- The answer ------------------------------------------------------------------------
 
-answer-refused : (b lows highs : List ℕ) (r : Refusal) → boundsRefusal b lows highs ≡ r → (r .number ≡ 0 → ⊥)
-    → record { number = r .number; line = r .line; yes = false } ≡ boundsOf b lows highs
-unfolding boundsOf
-answer-refused b lows highs r e n = rw (e, ne-eqb (r .number) 0 n)
+answer-refused : (own : List Refusal) (s : Sheet) (lows highs : List ℕ) (r : Refusal)
+    → boundsRefusal own s lows highs ≡ r → (r .number ≡ 0 → ⊥)
+    → record { number = r .number; line = r .line; yes = false } ≡ boundsFor own s lows highs
+unfolding boundsFor
+answer-refused own s lows highs r e n = rw (e, ne-eqb (r .number) 0 n)
 
-module _ (b lows highs : List ℕ) (r : Reading) (e : r ≡ readingOf b) where
-  pub bounds-refused : (r .number ≡ 0 → ⊥) → record { number = r .number; line = r .line; yes = false } ≡ boundsOf b lows highs
+module _ {own : List Refusal} {s : Sheet} {r : Reading} (e : ReadFrom own s r) (lows highs : List ℕ) where
+  pub bounds-refused : (r .number ≡ 0 → ⊥)
+      → record { number = r .number; line = r .line; yes = false } ≡ boundsFor own s lows highs
   unfolding boundsRefusal
   bounds-refused n =
-      answer-refused b lows highs (record { number = r .number; line = r .line })
-      (refused-before b r e (fault 11 0 (boundsFault (sheetOf b .slots) lows highs)) n) n
+      answer-refused own s lows highs (record { number = r .number; line = r .line })
+      (refused-before e n (fault badList 0 (boundsFault (s .slots) lows highs))) n
 
   module _ (z : r .number ≡ 0) where
-    a : Read b r
-    a = read-accepted b r e z
+    a : SheetRead s r
+    a = sheet-read e z
 
-    refusal : (t : Bool) → t ≡ boundsFault (r .slots) lows highs → boundsRefusal b lows highs ≡ firstRefusal (fault 11 0 t)
+    refusal : (t : Bool) → t ≡ boundsFault (r .slots) lows highs
+        → boundsRefusal own s lows highs ≡ firstRefusal (fault badList 0 t)
     unfolding boundsRefusal
     refusal t f =
-        accepted-before b r e (fault 11 0 (boundsFault (sheetOf b .slots) lows highs)) z
-        ∙ ap (λ x. firstRefusal (fault 11 0 x)) (ap (λ d. boundsFault d lows highs) (sym (a .slots)) ∙ sym f)
+        accepted-before e z (fault badList 0 (boundsFault (s .slots) lows highs))
+        ∙ ap (λ x. firstRefusal (fault badList 0 x)) (ap (λ d. boundsFault d lows highs) (sym (a .slots)) ∙ sym f)
 
-    pub bounds-unequal : true ≡ boundsFault (r .slots) lows highs → record { number = 11; line = 0; yes = false } ≡ boundsOf b lows highs
+    pub bounds-unequal : true ≡ boundsFault (r .slots) lows highs
+        → record { number = badList; line = 0; yes = false } ≡ boundsFor own s lows highs
     unfolding firstRefusal
-    bounds-unequal f = answer-refused b lows highs (record { number = 11; line = 0 }) (refusal true f) (λ i. omega (arith, i))
+    bounds-unequal f = answer-refused own s lows highs (record { number = badList; line = 0 }) (refusal true f)
+        (λ i. omega (arith, i))
 
     module _ (f : false ≡ boundsFault (r .slots) lows highs) where
       parts : (not (eqb (length lows) (r .slots)) ≡ false) × (not (eqb (length highs) (r .slots)) ≡ false)
@@ -140,16 +150,16 @@ module _ (b lows highs : List ℕ) (r : Reading) (e : r ≡ readingOf b) where
       highs-short = omega (arith, highs-long, a .rations .short)
 
       -- what the sheet answers
-      answer : (y : Bool) → y ≡ feasible (r .slots) (demandsOf (sheetOf b)) lows (cutHighs (r .blowers) highs)
-          → record { number = 0; line = 0; yes = y } ≡ boundsOf b lows highs
-      unfolding boundsOf firstRefusal sheetFeasible
+      answer : (y : Bool) → y ≡ feasible (r .slots) (demandsOf s) lows (cutHighs (r .blowers) highs)
+          → record { number = 0; line = 0; yes = y } ≡ boundsFor own s lows highs
+      unfolding boundsFor firstRefusal sheetFeasible
       answer y g =
           rw (refusal false f)
           (λ i. record {
             number = 0;
             line = 0;
             yes = (g
-                ∙ ap₂ (λ d m. feasible d (demandsOf (sheetOf b)) lows (cutHighs m highs)) (a .slots) (a .blowers)) i;
+                ∙ ap₂ (λ d m. feasible d (demandsOf s) lows (cutHighs m highs)) (a .slots) (a .blowers)) i;
           })
 
       module _ (H : List ℕ) (g : H ≡ padded maxSlots (cutHighs (r .blowers) highs)) where
@@ -181,10 +191,13 @@ module _ (b lows highs : List ℕ) (r : Reading) (e : r ≡ readingOf b) where
                   padded-past maxSlots (cutHighs (r .blowers) highs) t (omega (arith, length-cutHighs (r .blowers) highs)),
                 )
 
-        pub bounds-disordered : false ≡ atMost lows (take (length lows) H) → record { number = 0; line = 0; yes = false } ≡ boundsOf b lows highs
+        pub bounds-disordered : false ≡ atMost lows (take (length lows) H)
+            → record { number = 0; line = 0; yes = false } ≡ boundsFor own s lows highs
         bounds-disordered o =
-            answer false (sym (subst (λ d. feasible d (demandsOf (sheetOf b)) lows (cutHighs (r .blowers) highs) ≡ false) (sym (a .slots))
-            (disordered-infeasible (windows-demandsOf (sheetOf b)) lows (cutHighs (r .blowers) highs) (lows-long ∙ a .slots) (cuts ∙ a .slots)
+            answer false (sym (subst (λ d. feasible d (demandsOf s) lows (cutHighs (r .blowers) highs) ≡ false)
+            (sym (a .slots))
+            (disordered-infeasible (windows-demandsOf s) lows (cutHighs (r .blowers) highs) (lows-long ∙ a .slots)
+            (cuts ∙ a .slots)
             (ap (atMost lows) (sym (high-cut (length lows) lows-long)) ∙ sym o))))
 
         module _ (o : true ≡ atMost lows (take (length lows) H)) where
@@ -200,26 +213,21 @@ module _ (b lows highs : List ℕ) (r : Reading) (e : r ≡ readingOf b) where
           lows-small = record { short = lows-short; small = λ t l. omega (arith, low-high t l, high-small t) }
 
           module _ (L : List ℕ) (q : L ≡ padded maxSlots lows) where
-            pub bounds-can : CanAsk (r .slots) (r .rations) (r .numbers) L H
-            bounds-can =
-                record {
-                  rations = a .rations;
-                  lows = ap length q ∙ length-padded maxSlots lows lows-short;
-                  highs = high-long;
-                  ordered = λ t. at t (decLt t (length lows));
-                  small = high-small;
-                  past = λ t l.
-                      ap (λ x. getD x t 0) g ∙ padded-past maxSlots (cutHighs (r .blowers) highs) t (omega (arith, cuts));
-                }
-              where
-                at : (t : ℕ) → Dec (t < length lows) → getD L t 0 ≤ getD H t 0
-                at t (yes l) = omega (arith, ap (λ x. getD x t 0) q, getD-padded maxSlots lows t l, low-high t l)
-                at t (no l) = omega (arith, ap (λ x. getD x t 0) q, padded-past maxSlots lows t (omega arith))
+            module _ {W N : List ℕ} (w : WindowWords maxSlots (demandsFrom maxSlots (r .rations) (r .numbers)) W)
+                (v : VolumeBytes (demandsFrom maxSlots (r .rations) (r .numbers)) N) where
+              pub bounds-can : CanAsk (r .slots) W N L H
+              bounds-can =
+                  record {
+                    day = ration-words (a .rations) (windows-of-day (a .rations) w) (volumes-of-day (a .rations) v);
+                    lows = ap length q ∙ length-padded maxSlots lows lows-short;
+                    highs = high-long;
+                  }
 
-            pub bounds-answer : (y : Bool)
-                → y ≡ feasible (r .slots) (demandsFrom (r .slots) (r .rations) (r .numbers)) (take (r .slots) L) (take (r .slots) H)
-                → record { number = 0; line = 0; yes = y } ≡ boundsOf b lows highs
-            bounds-answer y p =
-                answer y (p
-                ∙ ap (λ ds. feasible (r .slots) ds (take (r .slots) L) (take (r .slots) H)) (a .demands)
-                ∙ ap₂ (feasible (r .slots) (demandsOf (sheetOf b))) (ap (take (r .slots)) q ∙ take-padded maxSlots lows (r .slots) lows-long) (high-cut (r .slots) refl))
+              pub bounds-answer : (y : Bool) → WordsAnswered y (r .slots) W N L H
+                  → record { number = 0; line = 0; yes = y } ≡ boundsFor own s lows highs
+              bounds-answer y p =
+                  answer y (p (demandsFrom (r .slots) (r .rations) (r .numbers))
+                  (demand-words (a .rations) (windows-of-day (a .rations) w) (volumes-of-day (a .rations) v))
+                  ∙ ap (λ ds. feasible (r .slots) ds (take (r .slots) L) (take (r .slots) H)) (a .demands)
+                  ∙ ap₂ (feasible (r .slots) (demandsOf s))
+                  (ap (take (r .slots)) q ∙ take-padded maxSlots lows (r .slots) lows-long) (high-cut (r .slots) refl))

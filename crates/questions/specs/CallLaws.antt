@@ -9,39 +9,55 @@ use lib.IntN.{pos, negsuc}
 use lib.ListN.{length, length-replicate, getD-replicate}
 use lib.Signed.{_≤ℤ_, leZ-yes}
 use borrow.Author.Tests.{eqb-true}
-use Rattle.sheet.specs.Sheet.{sheetOf}
-use Rattle.sheet.specs.Checks.{fault, faults}
-use Rattle.sheet.specs.FaultLaws.{numbered-append, numbered-faults, numbered-fault, append-nil-parts, false-fault}
-use Rattle.placing.specs.Demands.{fullHigh}
-use Rattle.questions.specs.Calls.{marked, marksFault, marksRefusal, sheetShortfall, shortfallOf}
-use Rattle.placing.specs.Theorems.{shortfall-of-day}
-use Rattle.placing.specs.DemandLaws.{accepted-inRange, accepted-blowers}
-use Rattle.questions.specs.CountLaws.{accepted-long, length-marked}
+use Rattle.checks.specs.declared.Refusal.{Refusal}
+use Rattle.checks.specs.Refusals.{badList}
+use Rattle.checks.specs.Sheet.{Sheet}
+use Rattle.checks.specs.Checks.{fault}
+use Rattle.checks.specs.FaultLaws.{numbered-append, numbered-fault, append-nil-parts, false-fault}
+use Rattle.sheet.specs.OwnChecks.{OwnChecks}
+use Rattle.sheet.specs.OwnCheckLaws.{bytes-checked}
+use Rattle.schedules.specs.Demands.{fullHigh}
+use Rattle.questions.specs.Calls.{marksRefusal, sheetShortfall, shortfallFor, shortfallOf}
+use Rattle.marks.specs.Marks.{marked, marksFault}
+use Rattle.schedules.specs.Theorems.{shortfall-of-day}
+use Rattle.schedules.specs.DemandLaws.{demandsOf-inRange}
+use Rattle.marks.specs.CountLaws.{accepted-long, length-marked}
 
--- number 0 stands for a sheet without a fault and one mark for each slot
-unrefused : (b marks : List ℕ) → marksRefusal b marks .number ≡ 0 → (faults b ≡ []) × (length marks ≡ sheetOf b .slots)
-unfolding marksRefusal
-unrefused b marks z =
-    let m = marksFault (sheetOf b .slots) marks in
-    let h = append-nil-parts (faults b) (fault 11 0 m)
-    (numbered-append (faults b) (fault 11 0 m) (numbered-faults b) (numbered-fault 11 0 m (omega arith)) z) in
-    (h .0, accepted-long (sheetOf b .slots) marks (false-fault 11 0 m (h .1)))
+module _ {own : List Refusal} {s : Sheet} (checks : OwnChecks own s) (marks : List ℕ) where
+  -- number 0 stands for a sheet without a fault and one mark for each slot
+  unrefused : marksRefusal own s marks .number ≡ 0 → (own ≡ []) × (length marks ≡ s .slots)
+  unfolding marksRefusal
+  unrefused z =
+      let m = marksFault (s .slots) marks in
+      let h = append-nil-parts own (fault badList 0 m)
+      (numbered-append own (fault badList 0 m) (checks .numbered) (numbered-fault badList 0 m (omega arith)) z) in
+      (h .0, accepted-long (s .slots) marks (false-fault badList 0 m (h .1)))
 
-sheetShortfall-range : (b marks : List ℕ) → faults b ≡ [] → length marks ≡ sheetOf b .slots
-    → (negsuc 767 ≤ℤ sheetShortfall (sheetOf b) marks) × (sheetShortfall (sheetOf b) marks ≤ℤ pos 6144)
-unfolding sheetShortfall fullHigh
-sheetShortfall-range b marks e l =
-    let r = accepted-inRange b e in
-    shortfall-of-day (r .windows) (fullHigh (sheetOf b)) (length-replicate (sheetOf b .slots) (sheetOf b .blowers)) (r .few) (r .small) (r .short)
-    (λ t m. omega (arith, getD-replicate (sheetOf b .slots) t (sheetOf b .blowers) 0 m, accepted-blowers b e))
-    (marked marks) (length-marked marks ∙ l)
+  sheetShortfall-range : own ≡ [] → length marks ≡ s .slots → (negsuc 767 ≤ℤ sheetShortfall s marks)
+      × (sheetShortfall s marks ≤ℤ pos 6144)
+  unfolding sheetShortfall fullHigh
+  sheetShortfall-range e l =
+      let v = checks .values e in
+      let r = demandsOf-inRange s v in
+      shortfall-of-day (r .windows) (fullHigh s) (length-replicate (s .slots) (s .blowers)) (r .few) (r .small)
+      (r .short)
+      (λ t m. omega (arith, getD-replicate (s .slots) t (s .blowers) 0 m, v .head .blowers .le))
+      (marked marks) (length-marked marks ∙ l)
 
--- whatever is lent, the shortfall answered is from −768 to 6,144
+  -- whatever is lent, the shortfall answered is from −768 to 6,144
+  pub shortfallFor-range : (negsuc 767 ≤ℤ shortfallFor own s marks .shortfall)
+      × (shortfallFor own s marks .shortfall ≤ℤ pos 6144)
+  unfolding shortfallFor
+  shortfallFor-range = go (eqb (marksRefusal own s marks .number) 0) refl
+    where
+      go : (t : Bool) → eqb (marksRefusal own s marks .number) 0 ≡ t
+          → (negsuc 767 ≤ℤ cond t (sheetShortfall s marks) (pos 0))
+          × (cond t (sheetShortfall s marks) (pos 0) ≤ℤ pos 6144)
+      go true e = let h = unrefused (eqb-true (marksRefusal own s marks .number) 0 e) in sheetShortfall-range (h .0)
+          (h .1)
+      go false e = (leZ-yes tt, leZ-yes tt)
+
+-- of a sheet's bytes
 pub shortfallOf-range : (b marks : List ℕ) → (negsuc 767 ≤ℤ shortfallOf b marks .shortfall) × (shortfallOf b marks .shortfall ≤ℤ pos 6144)
 unfolding shortfallOf
-shortfallOf-range b marks = go (eqb (marksRefusal b marks .number) 0) refl
-  where
-    go : (t : Bool) → eqb (marksRefusal b marks .number) 0 ≡ t
-        → (negsuc 767 ≤ℤ cond t (sheetShortfall (sheetOf b) marks) (pos 0)) × (cond t (sheetShortfall (sheetOf b) marks) (pos 0) ≤ℤ pos 6144)
-    go true e = let h = unrefused b marks (eqb-true (marksRefusal b marks .number) 0 e) in sheetShortfall-range b marks (h .0) (h .1)
-    go false e = (leZ-yes tt, leZ-yes tt)
+shortfallOf-range b marks = shortfallFor-range (bytes-checked b) marks

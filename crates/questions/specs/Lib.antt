@@ -1,20 +1,14 @@
 -- An outsider's questions about a sheet. Each file's head says in a sentence what it is about.
 -- Definitions
 pub mod Calls
-pub mod Counts
 -- What a reader of the answers looks for
 pub mod CallLaws
--- That the marks in a window are the difference of two counts
-pub mod Theorems
 -- For tables of days
 pub mod Text
 pub mod Meanings
 -- What the functions within the crate require and ensure, and the steps of their loops
-pub mod CountLaws
 pub mod ShortfallParts
 pub mod BoundsParts
-pub mod EveryLaws
-pub mod MarkSteps
 pub mod SignedSteps
 pub mod ShortfallSteps
 pub mod BoundsSteps

@@ -10,25 +10,28 @@ use lib.ListN.{length, getD, replicate}
 use borrow.Author.Tests.{ne-eqb}
 use Rattle.common.specs.ListLaws.{count-le-length}
 use Rattle.common.specs.Lists.{count}
-use Rattle.sheet.specs.declared.Refusal.{Refusal}
+use Rattle.checks.specs.declared.Refusal.{Refusal}
 use Rattle.sheet.specs.declared.Reading.{Reading}
-use Rattle.sheet.specs.Limits.{maxSlots, maxBlowers, maxRations}
-use Rattle.sheet.specs.Sheet.{sheetOf}
-use Rattle.sheet.specs.Checks.{fault, firstRefusal}
-use Rattle.sheet.specs.Calls.{readingOf}
+use Rattle.checks.specs.Limits.{maxSlots, maxBlowers, maxRations}
+use Rattle.checks.specs.Refusals.{badList}
+use Rattle.checks.specs.Sheet.{Sheet}
+use Rattle.checks.specs.Checks.{fault, firstRefusal}
+use Rattle.sheet.specs.OwnChecks.{ReadFrom}
+use Rattle.sheet.specs.OwnCheckLaws.{refused-before, accepted-before}
 use Rattle.theory.specs.Sums.{sum, sum-next, sum-cong, sum-le-mul}
-use Rattle.placing.specs.Slots.{Slots, outside, sumOver}
-use Rattle.placing.specs.Schedules.{noDemand, windowOf, volumeOf}
-use Rattle.placing.specs.Shortfall.{forced, shortfall}
-use Rattle.placing.specs.Demands.{demandsOf, fullHigh}
-use Rattle.questions.specs.Calls.{marked, marksFault, marksRefusal, sheetShortfall, shortfallOf}
+use Rattle.schedules.specs.Slots.{Slots, outside, sumOver}
+use Rattle.schedules.specs.Schedules.{noDemand, windowOf, volumeOf}
+use Rattle.schedules.specs.Shortfall.{forced, shortfall}
+use Rattle.schedules.specs.Demands.{demandsOf, fullHigh}
+use Rattle.marks.specs.Marks.{marked, marksFault}
+use Rattle.questions.specs.Calls.{marksRefusal, sheetShortfall, shortfallFor}
 use Rattle.placing.specs.Rations.{releaseAt, deadlineAt, volumeAt, demandsFrom, Rations}
-use Rattle.questions.specs.Counts.{countsBefore, forcedAt, forcedBy}
-use Rattle.questions.specs.ShortfallParts.{CanForce}
-use Rattle.placing.specs.Tabulate.{sum-map}
-use Rattle.placing.specs.ReadLaws.{refused-before, accepted-before, Read, read-accepted}
+use Rattle.marks.specs.Counts.{countsBefore}
+use Rattle.questions.specs.ShortfallParts.{forcedAt, forcedBy, CanForce}
+use Rattle.schedules.specs.Tabulate.{sum-map}
+use Rattle.placing.specs.ReadLaws.{SheetRead, sheet-read}
 use Rattle.placing.specs.RationLaws.{volume-small, length-demandsFrom, demandsFrom-at}
-use Rattle.questions.specs.CountLaws.{accepted-long, length-marked, length-countsBefore, countsBefore-all, counts-window, window-parts, outside-unmarkedIn}
+use Rattle.marks.specs.CountLaws.{accepted-long, length-marked, length-countsBefore, countsBefore-all, counts-window, window-parts, outside-unmarkedIn}
 
 -- forced(Q) -----------------------------------------------------------------------
 
@@ -100,33 +103,38 @@ capacity-full (false ∷ q) m = omega (arith, capacity-full q m)
 
 -- The answer ------------------------------------------------------------------------
 
-answer-refused : (b marks : List ℕ) (r : Refusal) → marksRefusal b marks ≡ r → (r .number ≡ 0 → ⊥)
-    → record { number = r .number; line = r .line; shortfall = pos 0 } ≡ shortfallOf b marks
-unfolding shortfallOf
-answer-refused b marks r e n = rw (e, ne-eqb (r .number) 0 n)
+answer-refused : (own : List Refusal) (s : Sheet) (marks : List ℕ) (r : Refusal) → marksRefusal own s marks ≡ r
+    → (r .number ≡ 0 → ⊥)
+    → record { number = r .number; line = r .line; shortfall = pos 0 } ≡ shortfallFor own s marks
+unfolding shortfallFor
+answer-refused own s marks r e n = rw (e, ne-eqb (r .number) 0 n)
 
-module _ (b marks : List ℕ) (r : Reading) (e : r ≡ readingOf b) where
-  pub shortfall-refused : (r .number ≡ 0 → ⊥) → record { number = r .number; line = r .line; shortfall = pos 0 } ≡ shortfallOf b marks
+module _ {own : List Refusal} {s : Sheet} {r : Reading} (e : ReadFrom own s r) (marks : List ℕ) where
+  pub shortfall-refused : (r .number ≡ 0 → ⊥)
+      → record { number = r .number; line = r .line; shortfall = pos 0 } ≡ shortfallFor own s marks
   unfolding marksRefusal
   shortfall-refused n =
-      answer-refused b marks (record { number = r .number; line = r .line }) (refused-before b r e (fault 11 0 (marksFault (sheetOf b .slots) marks)) n) n
+      answer-refused own s marks (record { number = r .number; line = r .line })
+      (refused-before e n (fault badList 0 (marksFault (s .slots) marks))) n
 
   module _ (z : r .number ≡ 0) where
-    a : Read b r
-    a = read-accepted b r e z
+    a : SheetRead s r
+    a = sheet-read e z
 
     pub slots-few : r .slots ≤ maxSlots
     slots-few = a .rations .short
 
-    refusal : (t : Bool) → t ≡ marksFault (r .slots) marks → marksRefusal b marks ≡ firstRefusal (fault 11 0 t)
+    refusal : (t : Bool) → t ≡ marksFault (r .slots) marks → marksRefusal own s marks ≡ firstRefusal (fault badList 0 t)
     unfolding marksRefusal
     refusal t f =
-        accepted-before b r e (fault 11 0 (marksFault (sheetOf b .slots) marks)) z
-        ∙ ap (λ x. firstRefusal (fault 11 0 x)) (ap (λ d. marksFault d marks) (sym (a .slots)) ∙ sym f)
+        accepted-before e z (fault badList 0 (marksFault (s .slots) marks))
+        ∙ ap (λ x. firstRefusal (fault badList 0 x)) (ap (λ d. marksFault d marks) (sym (a .slots)) ∙ sym f)
 
-    pub shortfall-unmarked : true ≡ marksFault (r .slots) marks → record { number = 11; line = 0; shortfall = pos 0 } ≡ shortfallOf b marks
+    pub shortfall-unmarked : true ≡ marksFault (r .slots) marks
+        → record { number = badList; line = 0; shortfall = pos 0 } ≡ shortfallFor own s marks
     unfolding firstRefusal
-    shortfall-unmarked f = answer-refused b marks (record { number = 11; line = 0 }) (refusal true f) (λ i. omega (arith, i))
+    shortfall-unmarked f = answer-refused own s marks (record { number = badList; line = 0 }) (refusal true f)
+        (λ i. omega (arith, i))
 
     module _ (f : false ≡ marksFault (r .slots) marks) where
       pub marks-long : length marks ≡ r .slots
@@ -155,8 +163,8 @@ module _ (b marks : List ℕ) (r : Reading) (e : r ≡ readingOf b) where
             mul-le-mul l (a .blown)
 
         pub shortfall-accepted : (x : ℤ) → x ≡ subℕ (forcedBy B (r .rations) (r .numbers)) (getD B (r .slots) 0 * r .blowers)
-            → record { number = 0; line = 0; shortfall = x } ≡ shortfallOf b marks
-        unfolding shortfallOf firstRefusal sheetShortfall shortfall fullHigh
+            → record { number = 0; line = 0; shortfall = x } ≡ shortfallFor own s marks
+        unfolding shortfallFor firstRefusal sheetShortfall shortfall fullHigh
         shortfall-accepted x e =
             rw (refusal false f)
             (λ i. record {
@@ -167,7 +175,8 @@ module _ (b marks : List ℕ) (r : Reading) (e : r ≡ readingOf b) where
                   (ap (λ l. forcedBy l (r .rations) (r .numbers)) g ∙ forcedBy-counts marks (r .rations) (r .numbers) shortfall-rations) last-count
                   ∙ ap (λ ds. subℕ (forced ds (marked marks)) (count (marked marks) * r .blowers))
                   (ap (λ d. demandsFrom d (r .rations) (r .numbers)) marks-long ∙ a .demands)
-                  ∙ ap (λ c. subℕ (forced (demandsOf (sheetOf b)) (marked marks)) c) (sym (capacity-full (marked marks) (r .blowers))
+                  ∙ ap (λ c. subℕ (forced (demandsOf s) (marked marks)) c)
+                  (sym (capacity-full (marked marks) (r .blowers))
                   ∙ ap (λ d. sumOver (replicate d (r .blowers)) (marked marks)) (length-marked marks ∙ marks-long ∙ a .slots)
-                  ∙ ap (λ m. sumOver (replicate (sheetOf b .slots) m) (marked marks)) (a .blowers))) i;
+                  ∙ ap (λ m. sumOver (replicate (s .slots) m) (marked marks)) (a .blowers))) i;
             })

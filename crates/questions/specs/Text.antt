@@ -4,7 +4,7 @@ use Prim.Native.Nat.{ℕ}
 use Prim.Native.Char.{code}
 use Prim.Native.String.{String, [] as nil, _∷_ as cons}
 use Rattle.common.specs.Lists.{flatMap}
-use Rattle.sheet.specs.Limits.{newline}
+use Rattle.line.specs.Layout.{newline}
 
 -- the codes of a text's characters
 abbrev pub codes : String → List ℕ

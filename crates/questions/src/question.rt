@@ -1,15 +1,19 @@
 // The bounds question: whether a sound placing exists under a low and a high for each slot.
 use crate::BoundsAnswer;
+use checks::refusals::BAD_LIST;
 use placing::feasibility;
+use placing::windows;
+use sheet::Reading;
 ghost use mathlib.Core.Path.{_≡_};
 ghost use Prim.Native.Nat.{min, _≤_, _<_};
 ghost use lib.Dec.{ltb};
 ghost use lib.ListN.{length, take};
-ghost use Rattle.sheet.specs.Limits.{maxSlots, maxBlowers};
-ghost use Rattle.sheet.specs.Calls.{padded};
-ghost use Rattle.placing.specs.Schedules.{atMost};
+ghost use Rattle.checks.specs.Limits.{maxSlots, maxBlowers};
+ghost use Rattle.common.specs.Buffers.{padded};
+ghost use Rattle.sheet.specs.OwnChecks.{SomeReading};
+ghost use Rattle.schedules.specs.Schedules.{atMost};
 ghost use Rattle.questions.specs.Calls.{boundsFault, cutHighs, boundsOf};
-ghost use Rattle.questions.specs.BoundsParts.{SmallLows};
+ghost use Rattle.questions.specs.BoundsParts.{SmallLows, ReadBounds};
 
 // 11: a list is not one bound for each slot.
 fn is_faulty(slots: usize, lows: &[u32], highs: &[u32]) -> bool
@@ -82,12 +86,13 @@ fn low_bytes(lows: &[u32]) -> [u8; 96]
     bytes
 }
 
-// The bounds question on a sheet's day: number 0 and whether a sound placing exists under a low and a high for each slot, a high above the blowers
-// being read as the blowers; or the number and the line of the first refusal and no. Nothing lent is changed.
-pub fn bounds(b: &[u8], lows: &[u32], highs: &[u32]) -> BoundsAnswer
-    ensures { λ r. ⌜ r ≡ boundsOf (now (b .entry)) (now (lows .entry)) (now (highs .entry)) ⌝ }
+// The bounds question on the day of a sheet that was read: number 0 and whether a sound placing exists under a low and
+// a high for each slot, a high above the blowers being read as the blowers; or the number and the line of the first
+// refusal and no.
+pub fn bounds_of(sheet: Reading, lows: &[u32], highs: &[u32]) -> BoundsAnswer
+    requires { ⌜ SomeReading sheet ⌝ }
+    ensures { λ r. ⌜ ReadBounds sheet (now (lows .entry)) (now (highs .entry)) r ⌝ }
 {
-    let sheet = sheet::read(b);
     if sheet.number != 0 {
         return BoundsAnswer {
             number: sheet.number,
@@ -98,7 +103,7 @@ pub fn bounds(b: &[u8], lows: &[u32], highs: &[u32]) -> BoundsAnswer
     let slots = sheet.slots as usize;
     if is_faulty(slots, lows, highs) {
         return BoundsAnswer {
-            number: 11,
+            number: BAD_LIST,
             line: 0,
             yes: false,
         };
@@ -113,9 +118,20 @@ pub fn bounds(b: &[u8], lows: &[u32], highs: &[u32]) -> BoundsAnswer
     }
     let low = low_bytes(lows);
     let numbers = sheet.numbers;
+    let rations = sheet.rations as usize;
+    let mut words = [0u64; 96];
+    windows::mark_windows(&mut words, rations, &numbers);
+    let volumes = windows::volumes_of(rations, &numbers);
     BoundsAnswer {
         number: 0,
         line: 0,
-        yes: feasibility::is_feasible(slots, sheet.rations as usize, &numbers, &low, &high),
+        yes: feasibility::is_feasible(slots, &words, &volumes, &low, &high),
     }
+}
+
+// The bounds question on a sheet's day, from its bytes. Nothing lent is changed.
+pub fn bounds(b: &[u8], lows: &[u32], highs: &[u32]) -> BoundsAnswer
+    ensures { λ r. ⌜ r ≡ boundsOf (now (b .entry)) (now (lows .entry)) (now (highs .entry)) ⌝ }
+{
+    bounds_of(sheet::read(b), lows, highs)
 }

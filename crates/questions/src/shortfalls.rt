@@ -1,13 +1,16 @@
 // The shortfall of a set of slots: what is forced into it, less its capacity.
 use crate::ShortfallAnswer;
-use crate::marks;
+use checks::refusals::BAD_LIST;
+use sheet::Reading;
 ghost use mathlib.Core.Path.{_≡_};
 ghost use Prim.Native.Nat.{_-_, _*_, _≤_};
 ghost use lib.IntN.{subℕ};
-ghost use Rattle.sheet.specs.Limits.{maxSlots, maxBlowers, maxRations};
+ghost use Rattle.checks.specs.Limits.{maxSlots, maxBlowers, maxRations};
+ghost use Rattle.sheet.specs.OwnChecks.{SomeReading};
 ghost use Rattle.questions.specs.Calls.{shortfallOf};
-ghost use Rattle.questions.specs.Counts.{unmarkedIn, forcedBy};
-ghost use Rattle.questions.specs.ShortfallParts.{CanCount, CanForce};
+ghost use Rattle.marks.specs.Counts.{unmarkedIn};
+ghost use Rattle.questions.specs.ShortfallParts.{forcedBy, CanForce, ReadShortfall};
+ghost use Rattle.marks.specs.Parts.{CanCount};
 
 // What one ration is forced to take: the larger of 0 and its volume less the slots of its window that are not marked. `before` has the marks counted
 // from slot 1 on.
@@ -45,12 +48,12 @@ fn difference(a: u32, b: u32) -> i32
     a as i32 - b as i32
 }
 
-// The shortfall of the marked slots of a sheet's day, high being the blowers in every slot: number 0 and forced minus capacity; or the number and
-// the line of the first refusal and 0. Nothing lent is changed.
-pub fn shortfall(b: &[u8], marks: &[u8]) -> ShortfallAnswer
-    ensures { λ r. ⌜ r ≡ shortfallOf (now (b .entry)) (now (marks .entry)) ⌝ }
+// The shortfall of the marked slots of the day of a sheet that was read, high being the blowers in every slot: number 0
+// and forced minus capacity; or the number and the line of the first refusal and 0.
+pub fn shortfall_of(sheet: Reading, marks: &[u8]) -> ShortfallAnswer
+    requires { ⌜ SomeReading sheet ⌝ }
+    ensures { λ r. ⌜ ReadShortfall sheet (now (marks .entry)) r ⌝ }
 {
-    let sheet = sheet::read(b);
     if sheet.number != 0 {
         return ShortfallAnswer {
             number: sheet.number,
@@ -61,7 +64,7 @@ pub fn shortfall(b: &[u8], marks: &[u8]) -> ShortfallAnswer
     let slots = sheet.slots as usize;
     if marks::is_faulty(slots, marks) {
         return ShortfallAnswer {
-            number: 11,
+            number: BAD_LIST,
             line: 0,
             shortfall: 0,
         };
@@ -76,4 +79,11 @@ pub fn shortfall(b: &[u8], marks: &[u8]) -> ShortfallAnswer
         line: 0,
         shortfall: difference(f, capacity),
     }
+}
+
+// The shortfall of the marked slots of a sheet's day, from its bytes. Nothing lent is changed.
+pub fn shortfall(b: &[u8], marks: &[u8]) -> ShortfallAnswer
+    ensures { λ r. ⌜ r ≡ shortfallOf (now (b .entry)) (now (marks .entry)) ⌝ }
+{
+    shortfall_of(sheet::read(b), marks)
 }

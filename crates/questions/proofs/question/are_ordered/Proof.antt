@@ -5,7 +5,7 @@ use lib.Dec.{leb}
 use lib.ListN.{length, take, drop}
 use borrow.Author.Tests.{ltb-true, ltb-false}
 use Rattle.common.specs.Lists.{every, zipWith}
-use Rattle.placing.specs.Schedules.{atMost}
+use Rattle.schedules.specs.Schedules.{atMost}
 use Rattle.questions.specs.BoundsSteps.{order-hit, order-miss, order-end}
 use native.Mathlib.Omega.{arith}
 use Rattle.questions.proofs.question.are_ordered.Statement.{statement}

@@ -1,8 +1,8 @@
 -- `questions::question::cut_highs` meets its contract: after t slots it has their highs, cut. Assumes nothing.
 use Prim.Native.Nat.{_-_, _≤_}
 use lib.ListN.{length}
-use Rattle.sheet.specs.Limits.{maxSlots}
-use Rattle.placing.specs.FillLaws.{FilledTo, filled-begin, filled-next}
+use Rattle.checks.specs.Limits.{maxSlots}
+use Rattle.common.specs.FillLaws.{FilledTo, filled-begin, filled-next}
 use Rattle.questions.specs.BoundsSteps.{cutAt, cut-end}
 use native.Mathlib.Omega.{arith}
 use Rattle.questions.proofs.question.cut_highs.Statement.{statement}

@@ -2,8 +2,8 @@
 use mathlib.Core.Path.{refl}
 use Prim.Native.Nat.{_-_, _≤_}
 use lib.ListN.{length}
-use Rattle.sheet.specs.Limits.{maxSlots}
-use Rattle.placing.specs.FillLaws.{FilledTo, filled-begin, filled-next}
+use Rattle.checks.specs.Limits.{maxSlots}
+use Rattle.common.specs.FillLaws.{FilledTo, filled-begin, filled-next}
 use Rattle.questions.specs.BoundsSteps.{lowAt, low-end}
 use native.Mathlib.Omega.{arith}
 use Rattle.questions.proofs.question.low_bytes.Statement.{statement}

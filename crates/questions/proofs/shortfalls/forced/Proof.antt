@@ -2,7 +2,7 @@
 use mathlib.Core.Path.{_≡_, sym, _∙_}
 use Prim.Native.Nat.{_+_, _-_, _≤_}
 use Rattle.theory.specs.Sums as S
-use Rattle.questions.specs.Counts.{forcedAt}
+use Rattle.questions.specs.ShortfallParts.{forcedAt}
 use Rattle.questions.specs.ShortfallSteps.{forced-fits, forced-next, forced-end}
 use native.Mathlib.Omega.{arith}
 use Rattle.questions.proofs.shortfalls.forced.Statement.{statement}

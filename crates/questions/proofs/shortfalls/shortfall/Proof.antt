@@ -1,12 +1,6 @@
--- `questions::shortfalls::shortfall` meets its contract: the sheet is refused, the marks are refused, or the answer is the difference. Assumes nothing.
-use mathlib.Core.Path.{sym, ap, _∙_}
-use Prim.Native.Nat.{_*_}
-use lib.IntN.{subℕ}
-use lib.ListN.{getD}
-use mir.Syntax.{w32}
-use mir.ValLaws.{toZ-ofZ}
-use Rattle.questions.specs.ShortfallSteps.{shortfall-refused, shortfall-unmarked, slots-few, marks-few, counts-force, forced-most, capacity-most, shortfall-accepted}
-use native.Mathlib.Omega.{arith}
+-- `questions::shortfalls::shortfall` meets its contract. Assumes nothing.
+use Rattle.sheet.specs.OwnCheckLaws.{bytes-read}
+use Rattle.questions.specs.Calls.{shortfallOf}
 use borrow.Author.Needs.{needs}
 use Rattle.questions.proofs.shortfalls.shortfall.Statement.{statement}
 use Rattle.questions.proofs.shortfalls.shortfall.Tie as tie
@@ -14,72 +8,12 @@ use Rattle.questions.proofs.shortfalls.shortfall.Tie as tie
 read-requires : tie.Need-read-requires
 read-requires c κs = search needs
 
+shortfall-of-requires : tie.Need-shortfall-of-requires
+shortfall-of-requires c κs = record { own = _; sheet = _; read = bytes-read _ (c .read .ensures) }
+
 returns : tie.Need-returns
-returns c = shortfall-refused _ _ _ (c .before .before .read .ensures) (c .if1 .taken)
-
-cast-slots : tie.Need-cast-slots
-cast-slots c = search needs
-
-is-faulty-requires : tie.Need-is-faulty-requires
-is-faulty-requires c κs = search needs
-
-returns-2 : tie.Need-returns-2
-returns-2 c = shortfall-unmarked _ _ _ (c .before .before .before .before .before .read .ensures) (c .before .before .before .if1 .left) (sym (c .if2 .taken) ∙ c .before .is-faulty .ensures)
-
-counts-before-requires : tie.Need-counts-before-requires
-counts-before-requires c κs = marks-few _ _ _ (c .before .before .before .before .before .read .ensures) (c .before .before .before .if1 .left) (sym (c .if2 .left) ∙ c .before .is-faulty .ensures)
-
-cast-forced : tie.Need-cast-forced
-cast-forced c = search needs
-
-forced-requires : tie.Need-forced-requires
-forced-requires c κs =
-    counts-force _ _ _ (c .before .before .before .before .before .before .before .before .before .before .read .ensures) (c .before .before .before .before .before .before .before .before .if1 .left) (sym (c .before .before .before .before .before .if2 .left) ∙ c .before .before .before .before .before .before .is-faulty .ensures) _ (c .before .before .before .before .counts-before .ensures)
-
-mul-capacity : tie.Need-mul-capacity
-mul-capacity c = search needs
-
-array-read-capacity : tie.Need-array-read-capacity
-array-read-capacity c = omega (arith, slots-few _ (c .before .before .before .before .before .before .before .before .before .before .before .before .before .before .args .marks .now) _ (c .before .before .before .before .before .before .before .before .before .before .before .read .ensures) (c .before .before .before .before .before .before .before .before .before .if1 .left))
-
-mul-capacity-2 : tie.Need-mul-capacity-2
-mul-capacity-2 c =
-    omega (
-      arith,
-      capacity-most _ _ _ (c .before .before .before .before .before .before .before .before .before .before .before .before .read .ensures) (c .before .before .before .before .before .before .before .before .before .before .if1 .left) (sym (c .before .before .before .before .before .before .before .if2 .left) ∙ c .before .before .before .before .before .before .before .before .is-faulty .ensures) _ (c .before .before .before .before .before .before .counts-before .ensures),
-    )
-
-difference-requires : tie.Need-difference-requires
-difference-requires c κs =
-    omega (
-      arith,
-      forced-most _ _ _ (c .before .before .before .before .before .before .before .before .before .before .before .before .read .ensures) (c .before .before .before .before .before .before .before .before .before .before .if1 .left) (sym (c .before .before .before .before .before .before .before .if2 .left) ∙ c .before .before .before .before .before .before .before .before .is-faulty .ensures) _ (c .before .before .before .before .before .before .counts-before .ensures),
-      c .before .forced .ensures,
-      capacity-most _ _ _ (c .before .before .before .before .before .before .before .before .before .before .before .before .read .ensures) (c .before .before .before .before .before .before .before .before .before .before .if1 .left) (sym (c .before .before .before .before .before .before .before .if2 .left) ∙ c .before .before .before .before .before .before .before .before .is-faulty .ensures) _ (c .before .before .before .before .before .before .counts-before .ensures),
-    )
-
-returns-3 : tie.Need-returns-3
-returns-3 c =
-    let r = c .before .before .before .before .before .before .before .before .before .before .before .before .before .read .result in
-    let before = c .before .before .before .before .before .before .before .counts-before .result in
-    shortfall-accepted _ _ _ (c .before .before .before .before .before .before .before .before .before .before .before .before .before .read .ensures) (c .before .before .before .before .before .before .before .before .before .before .before .if1 .left) (sym (c .before .before .before .before .before .before .before .before .if2 .left) ∙ c .before .before .before .before .before .before .before .before .before .is-faulty .ensures) _ (c .before .before .before .before .before .before .before .counts-before .ensures)
-    _ (toZ-ofZ w32 (c .difference .result) (record { sfits = c .difference .ok }) ∙ c .difference .ensures
-    ∙ ap (λ k. subℕ k (getD before (r .slots) 0 * r .blowers)) (c .before .before .forced .ensures))
+unfolding shortfallOf
+returns c = c .shortfall-of .ensures _ _ (bytes-read _ (c .before .read .ensures))
 
 pub shortfall-spec : {M : Type 1} → statement M
-shortfall-spec =
-    tie.close
-    (tie.spec
-    read-requires
-    returns
-    cast-slots
-    is-faulty-requires
-    returns-2
-    counts-before-requires
-    cast-forced
-    forced-requires
-    mul-capacity
-    array-read-capacity
-    mul-capacity-2
-    difference-requires
-    returns-3)
+shortfall-spec = tie.close (tie.spec read-requires shortfall-of-requires returns)

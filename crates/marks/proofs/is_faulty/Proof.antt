@@ -1,11 +1,11 @@
--- `questions::marks::is_faulty` meets its contract. Assumes nothing.
+-- `marks::is_faulty` meets its contract. Assumes nothing.
 use mathlib.Core.Path.{ap}
 use mathlib.Core.Bool.{not}
 use borrow.Author.Tests.{eq-eqb, ne-eqb}
-use Rattle.questions.specs.Calls.{marksFault}
+use Rattle.marks.specs.Marks.{marksFault}
 use borrow.Author.Needs.{needs}
-use Rattle.questions.proofs.marks.is_faulty.Statement.{statement}
-use Rattle.questions.proofs.marks.is_faulty.Tie as tie
+use Rattle.marks.proofs.is_faulty.Statement.{statement}
+use Rattle.marks.proofs.is_faulty.Tie as tie
 
 returns : tie.Need-returns
 unfolding marksFault

@@ -7,10 +7,10 @@ use Prim.Native.Nat.{ℕ, suc, _+_, _-_, _≤_}
 use native.Mathlib.Omega.{arith}
 use lib.ListN.{length, getD, take}
 use Rattle.common.specs.Lists.{count}
-use Rattle.placing.specs.Slots.{window, inside, outside}
-use Rattle.questions.specs.Calls.{marked, marksFault}
-use Rattle.questions.specs.Counts.{countsBefore}
-use Rattle.questions.specs.CountLaws.{accepted-long, countsBefore-at, countsBefore-all, counts-window, inside-markedIn, outside-unmarkedIn}
+use Rattle.schedules.specs.Slots.{window, inside, outside}
+use Rattle.marks.specs.Marks.{marked, marksFault}
+use Rattle.marks.specs.Counts.{countsBefore}
+use Rattle.marks.specs.CountLaws.{accepted-long, countsBefore-at, countsBefore-all, counts-window, inside-markedIn, outside-unmarkedIn}
 
 module _ (slots : ℕ) (marks : List ℕ) (accepted : marksFault slots marks ≡ false) where
   long : length marks ≡ slots

@@ -13,19 +13,19 @@ use lib.Seq.{length-take-le, getD-take, take-all}
 use borrow.Author.Tests.{le-leb, lt-leb, eqb-true, not-false}
 use Rattle.common.specs.Lists.{count}
 use Rattle.common.specs.Tests.{or-false}
-use Rattle.sheet.specs.Limits.{maxSlots}
-use Rattle.sheet.specs.ReadSteps.{length-padded}
+use Rattle.checks.specs.Limits.{maxSlots}
+use Rattle.common.specs.BufferLaws.{length-padded}
 use Rattle.theory.specs.Sums.{sum, sum-cong, sum-zero}
 use Rattle.theory.specs.SumsOver.{one}
 use Rattle.theory.specs.Placing.{size}
 use Rattle.theory.specs.Row.{size-split, inside-is}
-use Rattle.placing.specs.Slots.{Slots, has, window, inside, outside}
-use Rattle.placing.specs.Tabulate.{tab, length-tab, getD-tab, count-size}
-use Rattle.placing.specs.AsFunctions.{inside-as, outside-as}
-use Rattle.placing.specs.WindowLaws.{length-window, has-window, count-window}
-use Rattle.placing.specs.FillLaws.{getD-padded}
-use Rattle.questions.specs.Calls.{marked, marksFault}
-use Rattle.questions.specs.Counts.{markedTo, countsBefore, markedIn, unmarkedIn}
+use Rattle.schedules.specs.Slots.{Slots, has, window, inside, outside}
+use Rattle.schedules.specs.Tabulate.{tab, length-tab, getD-tab, count-size}
+use Rattle.schedules.specs.AsFunctions.{inside-as, outside-as}
+use Rattle.schedules.specs.WindowLaws.{length-window, has-window, count-window}
+use Rattle.common.specs.FillLaws.{getD-padded}
+use Rattle.marks.specs.Marks.{marked, marksFault}
+use Rattle.marks.specs.Counts.{markedTo, countsBefore, markedIn, unmarkedIn}
 
 -- an accepted list has one mark for each slot
 pub accepted-long : (slots : ℕ) (marks : List ℕ) → marksFault slots marks ≡ false → length marks ≡ slots

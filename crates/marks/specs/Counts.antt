@@ -3,12 +3,10 @@ use mathlib.Core.List.{List}
 use Prim.Native.Nat.{ℕ, suc, _-_}
 use lib.ListN.{length, getD, take}
 use Rattle.common.specs.Lists.{count}
-use Rattle.sheet.specs.Limits.{maxSlots}
-use Rattle.sheet.specs.Calls.{padded}
-use Rattle.theory.specs.Sums.{sum}
-use Rattle.placing.specs.Rations.{releaseAt, deadlineAt, volumeAt}
-use Rattle.placing.specs.Tabulate.{tab}
-use Rattle.questions.specs.Calls.{marked}
+use Rattle.checks.specs.Limits.{maxSlots}
+use Rattle.common.specs.Buffers.{padded}
+use Rattle.schedules.specs.Tabulate.{tab}
+use Rattle.marks.specs.Marks.{marked}
 
 -- how many of the slots 1 to t are marked
 abbrev pub markedTo : List ℕ → ℕ → ℕ
@@ -25,11 +23,3 @@ markedIn before release deadline = getD before deadline 0 - getD before (release
 -- the slots of a window that are not marked: its length less the marks in it
 abbrev pub unmarkedIn : (before : List ℕ) (release deadline : ℕ) → ℕ
 unmarkedIn before release deadline = (suc deadline - release) - markedIn before release deadline
-
--- what ration j, from 0, is forced to feed in the marked slots
-abbrev pub forcedAt : (before numbers : List ℕ) → ℕ → ℕ
-forcedAt before numbers j = volumeAt numbers j - unmarkedIn before (releaseAt numbers j) (deadlineAt numbers j)
-
--- what n rations are forced to feed there
-unfoldable pub forcedBy : (before : List ℕ) (n : ℕ) (numbers : List ℕ) → ℕ
-forcedBy before n numbers = sum n (forcedAt before numbers)

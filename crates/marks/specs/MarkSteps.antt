@@ -8,16 +8,16 @@ use lib.Dec.{eqb}
 use lib.ListN.{length, getD, drop, replicate, length-map, length-replicate}
 use borrow.Author.Tests.{le-leb, lt-leb, eq-eqb, ne-eqb}
 use Rattle.common.specs.Lists.{every}
-use Rattle.sheet.specs.Limits.{maxSlots}
+use Rattle.checks.specs.Limits.{maxSlots}
 use Rattle.theory.specs.Sums.{sum-none, sum-next}
 use Rattle.theory.specs.SumsOver.{one}
-use Rattle.placing.specs.Slots.{has}
-use Rattle.placing.specs.Tabulate.{tab, length-tab, getD-tab, getD-map-below}
-use Rattle.placing.specs.FillLaws.{getD-zeros, FilledTo, filled-end}
-use Rattle.questions.specs.Calls.{isMark, marked}
-use Rattle.questions.specs.Counts.{markedTo, countsBefore}
-use Rattle.questions.specs.EveryLaws.{every-miss, every-hit, every-end}
-use Rattle.questions.specs.CountLaws.{isMarked, markedTo-sum}
+use Rattle.schedules.specs.Slots.{has}
+use Rattle.schedules.specs.Tabulate.{tab, length-tab, getD-tab, getD-map-below}
+use Rattle.common.specs.FillLaws.{getD-zeros, FilledTo, filled-end}
+use Rattle.marks.specs.Marks.{isMark, marked}
+use Rattle.marks.specs.Counts.{markedTo, countsBefore}
+use Rattle.marks.specs.EveryLaws.{every-miss, every-hit, every-end}
+use Rattle.marks.specs.CountLaws.{isMarked, markedTo-sum}
 
 -- Each mark is 0 or 1 -----------------------------------------------------------
 

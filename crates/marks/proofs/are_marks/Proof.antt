@@ -1,14 +1,14 @@
--- `questions::marks::are_marks` meets its contract: what the marks from one on say of all, they say of all marks. Assumes nothing.
+-- `marks::are_marks` meets its contract: what the marks from one on say of all, they say of all marks. Assumes nothing.
 use mathlib.Core.Path.{_≡_, refl, sym, _∙_}
 use mathlib.Core.List.{map}
 use Prim.Native.Nat.{_-_, _≤_}
 use lib.ListN.{length, drop}
 use Rattle.common.specs.Lists.{every}
-use Rattle.questions.specs.Calls.{isMark}
-use Rattle.questions.specs.MarkSteps.{marks-hit, marks-miss, marks-end}
+use Rattle.marks.specs.Marks.{isMark}
+use Rattle.marks.specs.MarkSteps.{marks-hit, marks-miss, marks-end}
 use native.Mathlib.Omega.{arith}
-use Rattle.questions.proofs.marks.are_marks.Statement.{statement}
-use Rattle.questions.proofs.marks.are_marks.Tie as tie
+use Rattle.marks.proofs.are_marks.Statement.{statement}
+use Rattle.marks.proofs.are_marks.Tie as tie
 
 abbrev Inv-loop : tie.InvT-loop
 Inv-loop marks t₀ t = (t ≤ length marks) × (every (map isMark marks) ≡ every (drop t (map isMark marks)))

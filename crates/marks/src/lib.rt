@@ -4,10 +4,10 @@ ghost use mathlib.Core.List.{map};
 ghost use Prim.Native.Nat.{_≤_};
 ghost use lib.ListN.{length};
 ghost use Rattle.common.specs.Lists.{every};
-ghost use Rattle.sheet.specs.Limits.{maxSlots};
-ghost use Rattle.questions.specs.Calls.{isMark, marksFault};
-ghost use Rattle.questions.specs.Counts.{countsBefore, markedIn, unmarkedIn};
-ghost use Rattle.questions.specs.ShortfallParts.{CanCount};
+ghost use Rattle.checks.specs.Limits.{maxSlots};
+ghost use Rattle.marks.specs.Marks.{isMark, marksFault};
+ghost use Rattle.marks.specs.Counts.{countsBefore, markedIn, unmarkedIn};
+ghost use Rattle.marks.specs.Parts.{CanCount};
 
 // Whether each mark is 0 or 1.
 fn are_marks(marks: &[u8]) -> bool

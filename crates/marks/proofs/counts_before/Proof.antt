@@ -1,15 +1,15 @@
--- `questions::marks::counts_before` meets its contract: after t slots the places 0 to t have their counts. Assumes nothing.
+-- `marks::counts_before` meets its contract: after t slots the places 0 to t have their counts. Assumes nothing.
 use mathlib.Core.Path.{_≡_}
 use mathlib.Core.Logic.{⊎-elim}
 use Prim.Native.Nat.{suc, _+_, _-_, _≤_}
 use lib.ListN.{length}
-use Rattle.sheet.specs.Limits.{maxSlots}
-use Rattle.placing.specs.FillLaws.{FilledTo, filled-next}
-use Rattle.questions.specs.Counts.{markedTo}
-use Rattle.questions.specs.MarkSteps.{count-none, count-hit, count-miss, counts-begin, counts-end}
+use Rattle.checks.specs.Limits.{maxSlots}
+use Rattle.common.specs.FillLaws.{FilledTo, filled-next}
+use Rattle.marks.specs.Counts.{markedTo}
+use Rattle.marks.specs.MarkSteps.{count-none, count-hit, count-miss, counts-begin, counts-end}
 use native.Mathlib.Omega.{arith}
-use Rattle.questions.proofs.marks.counts_before.Statement.{statement}
-use Rattle.questions.proofs.marks.counts_before.Tie as tie
+use Rattle.marks.proofs.counts_before.Statement.{statement}
+use Rattle.marks.proofs.counts_before.Tie as tie
 
 abbrev Inv-loop : tie.InvT-loop
 Inv-loop marks before₀ n₀ t₀ before n t =
