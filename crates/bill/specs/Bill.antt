@@ -4,10 +4,10 @@ use mathlib.Core.Bool.{cond}
 use mathlib.Core.List.{List, [], _∷_, _++_, map}
 use Prim.Native.Nat.{ℕ, suc, _+_, _-_, _*_, _/_, _%_}
 use lib.Dec.{eqb}
-use lib.ListN.{length, getD, replicate}
+use lib.ListN.{getD, replicate}
 use Rattle.common.specs.Lists.{range, sum}
-use Rattle.stretches.specs.Intervals.{Interval, intervals}
-use Rattle.energy.specs.Energy.{state, startAt}
+use Rattle.energy.specs.Energy.{listedFor, startAt}
+use Rattle.energy.specs.declared.Stretch.{Stretch}
 use Rattle.bill.specs.declared.Amount.{Amount}
 
 -- Rates ------------------------------------------------------------------------
@@ -24,12 +24,6 @@ unfoldable pub rateOf : (slot : ℕ) → ℕ
 rateOf t = getD rates (hourOf t) 0
 
 -- One blower -------------------------------------------------------------------
-
--- A stretch as its line of the listing gives it: first and last slot, and state (0 off, 1 idle and on, 2 busy).
-pub record Stretch : Type 0 where
-  pub first : ℕ
-  pub last : ℕ
-  pub state : ℕ
 
 -- how many slots a stretch has
 abbrev pub extent : Stretch → ℕ
@@ -56,14 +50,6 @@ unfoldable pub blowerCharge : (wake : ℕ) → List Stretch → ℕ
 blowerCharge q ss = chargeFrom q 0 ss
 
 -- All blowers ------------------------------------------------------------------
-
--- what a stretch's line gives of it, in a day of so many slots
-unfoldable pub listed : (slots wake : ℕ) → Interval → Stretch
-listed d q v = record { first = v .first; last = v .last; state = state d q v }
-
--- the stretches that are listed for blower k
-unfoldable pub listedFor : (wake : ℕ) → (counts : List ℕ) → (k : ℕ) → List Stretch
-listedFor q counts k = map (listed (length counts) q) (intervals counts k)
 
 -- the day's charge: what m blowers with these counts cost
 unfoldable pub charge : ℕ → ℕ → List ℕ → ℕ

@@ -10,10 +10,11 @@ use lib.ListN.{length, getD}
 use borrow.Author.Tests.{leb-true}
 use Rattle.common.specs.Lists.{range, sum, every}
 use Rattle.common.specs.Tests.{and-true}
-use Rattle.stretches.specs.Intervals.{Interval, intervals, size}
-use Rattle.energy.specs.Energy.{state, onIn, onSlots, startAt, startsFrom, startsOf, starts, on, energy}
+use Rattle.method.specs.Intervals.{Interval, intervals, size}
+use Rattle.energy.specs.Energy.{state, listed, listedFor, onIn, onSlots, startAt, startsFrom, startsOf, starts, on, energy}
 use Rattle.energy.specs.EnergyLaws.{energy-most}
-use Rattle.bill.specs.Bill.{rates, hourOf, rateOf, Stretch, onRate, onCharge, startCharge, chargeFrom, blowerCharge, listed, listedFor, charge}
+use Rattle.energy.specs.declared.Stretch.{Stretch}
+use Rattle.bill.specs.Bill.{rates, hourOf, rateOf, onRate, onCharge, startCharge, chargeFrom, blowerCharge, charge}
 
 -- Rates ------------------------------------------------------------------------
 
@@ -60,16 +61,17 @@ startCharge-le : (q before : ℕ) (s : Stretch) → startCharge q before s ≤ 3
 unfolding startCharge
 startCharge-le q before s = starts-le (startAt before (s .state)) q _ (rateOf-le _)
 
-chargeFrom-le : (d q before : ℕ) (vs : List Interval) → chargeFrom q before (map (listed d q) vs) ≤ 36 * (onSlots d q vs + q * startsFrom before (map (state d q) vs))
+chargeFrom-le : (d q k before : ℕ) (vs : List Interval)
+    → chargeFrom q before (map (listed d q k) vs) ≤ 36 * (onSlots d q vs + q * startsFrom before (map (state d q) vs))
 unfolding chargeFrom listed onCharge onSlots startsFrom size
-chargeFrom-le d q before [] = omega arith
-chargeFrom-le d q before (v ∷ vs) =
+chargeFrom-le d q k before [] = omega arith
+chargeFrom-le d q k before (v ∷ vs) =
     let x : ℕ = state d q v in
     omega (
       arith,
       onRates-le x (v .first) (size v),
-      startCharge-le q before (listed d q v),
-      chargeFrom-le d q x vs,
+      startCharge-le q before (listed d q k v),
+      chargeFrom-le d q k x vs,
       mul-add q (startAt before x) (startsFrom x (map (state d q) vs)),
     )
 
@@ -88,7 +90,7 @@ charge-le-energy m q counts = go (range 1 m)
     go (k ∷ ks) =
         omega (
           arith,
-          chargeFrom-le d q 0 (intervals counts k),
+          chargeFrom-le d q k 0 (intervals counts k),
           go ks,
           mul-add q (startsOf d q (intervals counts k)) (sum (map (λ k. startsOf d q (intervals counts k)) ks)),
         )

@@ -4,10 +4,10 @@ use mathlib.Core.Path.{_≡_, refl}
 use mathlib.Core.List.{List, [], _∷_, _++_, map}
 use Prim.Native.Nat.{ℕ}
 use lib.ListN.{replicate}
-use Rattle.stretches.specs.Intervals.{join, runs, intervals, size}
-use Rattle.energy.specs.Energy.{atEnd, state, startAt}
+use Rattle.method.specs.Intervals.{join, runs, intervals, size}
+use Rattle.energy.specs.Energy.{atEnd, state, listed, listedFor, startAt}
 use Rattle.bill.specs.declared.Amount.{Amount}
-use Rattle.bill.specs.Bill.{rates, hourOf, rateOf, onRate, onCharge, startCharge, chargeFrom, blowerCharge, listed, listedFor, charge, centsOf, amountOf}
+use Rattle.bill.specs.Bill.{rates, hourOf, rateOf, onRate, onCharge, startCharge, chargeFrom, blowerCharge, charge, centsOf, amountOf}
 
 pub record Day : Type 0 where
   pub blowers : ℕ

@@ -3,10 +3,11 @@ use mathlib.Core.List.{List, [], _∷_}
 use Prim.Native.Nat.{ℕ, suc, _+_, _-_, _*_, _≤_}
 use lib.ListN.{replicate}
 use Rattle.common.specs.Lists.{flatMap}
-use Rattle.energy.specs.Energy.{startAt}
+use Rattle.energy.specs.Energy.{listedFor, startAt}
 use Rattle.energy.specs.Usage.{Day}
+use Rattle.energy.specs.declared.Stretch.{Stretch}
 use Rattle.bill.specs.declared.Tally.{Tally}
-use Rattle.bill.specs.Bill.{rateOf, Stretch, extent, onRate, listedFor}
+use Rattle.bill.specs.Bill.{rateOf, extent, onRate}
 
 -- blowers are off before slot 1
 abbrev pub noTally : Tally

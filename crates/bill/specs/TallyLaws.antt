@@ -12,8 +12,9 @@ use Rattle.common.specs.Lists.{range, sum}
 use Rattle.energy.specs.Energy.{state, startAt}
 use Rattle.energy.specs.EnergyLaws.{startAt-le}
 use Rattle.energy.specs.UsageSteps.{startAt-after-on, startAt-goes-on}
+use Rattle.energy.specs.declared.Stretch.{Stretch}
 use Rattle.bill.specs.declared.Tally.{Tally}
-use Rattle.bill.specs.Bill.{rateOf, Stretch, extent, onRate, onCharge, startCharge, charge}
+use Rattle.bill.specs.Bill.{rateOf, extent, onRate, onCharge, startCharge, charge}
 use Rattle.bill.specs.BillLaws.{rateOf-le, onRate-le}
 use Rattle.bill.specs.Tally.{slotCharge, withSlot, withSlots, slotMost, TallyTo}
 

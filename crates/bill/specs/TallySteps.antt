@@ -1,20 +1,20 @@
 -- How a tally goes on from slot to slot and from stretch to stretch, and how the tallies add up. Assumes nothing.
 use mathlib.Core.Path.{_≡_, refl, sym, ap, _∙_}
-use mathlib.Core.Bool.{Bool}
-use mathlib.Core.List.{List, map}
+use mathlib.Core.List.{List, _∷_, map}
 use Prim.Native.Nat.{ℕ, zero, suc, _+_, _-_, _≤_, _<_}
 use native.Mathlib.Numerals.{add-one}
 use native.Mathlib.Omega.{arith}
-use lib.Dec.{leb}
-use lib.ListN.{length, getD, take, replicate, length-take, length-replicate}
+use lib.ListN.{length, take, replicate, length-take, length-replicate}
 use lib.Seq.{length-take-le}
 use Rattle.common.specs.Lists.{range, sum}
-use Rattle.stretches.specs.Intervals.{intervals}
-use Rattle.stretches.specs.FrontRunLaws.{stretch, stretchesFrom, stretchesFrom-begin, stretchesFrom-end, EndsAt}
-use Rattle.energy.specs.Energy.{state}
+use Rattle.method.specs.Intervals.{intervals}
+use Rattle.method.specs.FrontRunLaws.{stretchesFrom, stretchesFrom-begin, stretchesFrom-end}
+use Rattle.energy.specs.Energy.{listed, listedFor}
 use Rattle.energy.specs.Usage.{CanCharge}
+use Rattle.energy.specs.StretchLaws.{Found}
+use Rattle.energy.specs.declared.Stretch.{Stretch}
 use Rattle.bill.specs.declared.Tally.{Tally}
-use Rattle.bill.specs.Bill.{Stretch, onCharge, startCharge, chargeFrom, blowerCharge, listed, listedFor, charge}
+use Rattle.bill.specs.Bill.{extent, onCharge, startCharge, chargeFrom, blowerCharge, charge}
 use Rattle.bill.specs.BillLaws.{chargeMost, charge-most}
 use Rattle.bill.specs.Tally.{noTally, withSlot, withSlots, TallyTo, CanAddSlot, CanAddSlots, CanTally}
 use Rattle.bill.specs.TallyLaws.{withSlots-stretch, tallyTo-slot, tallyTo-slots}
@@ -65,9 +65,10 @@ module _ (q from end x : ℕ) (y : Tally) where
 pub record TalliedTo (q : ℕ) (counts : List ℕ) (slots k from : ℕ) (z : Tally) : Type 0 where
   pub in-day : from ≤ slots
   pub before : TallyTo q from z
-  pub all : blowerCharge q (listedFor q (take slots counts) k) ≡ z .charge + chargeFrom q (z .state) (map (listed slots q) (stretchesFrom counts slots k from))
+  pub all : blowerCharge q (listedFor q (take slots counts) k)
+      ≡ z .charge + chargeFrom q (z .state) (map (listed slots q k) (stretchesFrom counts slots k from))
 
-module _ (q : ℕ) (counts : List ℕ) (slots k : ℕ) (can : CanTally counts slots q) where
+module _ {q : ℕ} {counts : List ℕ} {slots k : ℕ} (can : CanTally counts slots q) where
   pub talliedTo-begin : TalliedTo q counts slots k 0 noTally
   unfolding blowerCharge listedFor
   talliedTo-begin =
@@ -75,41 +76,58 @@ module _ (q : ℕ) (counts : List ℕ) (slots k : ℕ) (can : CanTally counts sl
         in-day = omega arith;
         before = record { wake-most = can .wake-most; few = omega arith };
         all =
-            ap (λ d. chargeFrom q 0 (map (listed d q) (intervals (take slots counts) k))) (length-take-le slots counts (omega (arith, can .counted .long, can .counted .day)))
-            ∙ ap (λ vs. chargeFrom q 0 (map (listed slots q) vs)) (stretchesFrom-begin counts slots k)
+            ap (λ d. chargeFrom q 0 (map (listed d q k) (intervals (take slots counts) k)))
+            (length-take-le slots counts (omega (arith, can .counted .long, can .counted .day)))
+            ∙ ap (λ vs. chargeFrom q 0 (map (listed slots q k) vs)) (stretchesFrom-begin counts slots k)
             ∙ omega arith;
       }
 
-  module _ (from : ℕ) (z : Tally) (u : TalliedTo q counts slots k from z) where
-    pub talliedTo-can : (end : ℕ) → EndsAt counts slots k from end → CanAddSlots q from end z
-    talliedTo-can end e = record { after = omega (arith, e .after); ends = omega (arith, e .within, can .counted .day); before = u .before }
+  module _ {from : ℕ} {z : Tally} (u : TalliedTo q counts slots k from z) where
+    module _ {s : Stretch} (f : Found q counts slots k from s) where
+      pub talliedTo-can : CanAddSlots q from (s .last) z
+      talliedTo-can =
+          record {
+            after = omega (arith, f .ends .after);
+            ends = omega (arith, f .ends .within, can .counted .day);
+            before = u .before;
+          }
 
-    pub talliedTo-more : (end x : ℕ) (b : Bool) (r : Tally) → EndsAt counts slots k from end → b ≡ leb k (getD counts from 0) → x ≡ state slots q (stretch (from + 1) end b)
-        → r ≡ withSlots q (from + 1) (replicate (end - from) x) z → TalliedTo q counts slots k end r
-    unfolding chargeFrom listed
-    talliedTo-more end x b r e p f g =
-        record { in-day = e .within; before = rw g to; all = omega (arith, u .all, ap (λ (y : Tally). y .charge) r-s, next) }
-      where
-        s : Stretch
-        s = record { first = from + 1; last = end; state = x }
+      pub talliedTo-more : {r : Tally} → r ≡ withSlots q (from + 1) (replicate (s .last - from) (s .state)) z
+          → TalliedTo q counts slots k (s .last) r
+      unfolding chargeFrom listed
+      talliedTo-more {r} g =
+          record {
+            in-day = f .ends .within;
+            before = rw g to;
+            all = omega (arith, u .all, ap (λ (y : Tally). y .charge) r-s, next);
+          }
+        where
+          left : List Stretch
+          left = map (listed slots q k) (stretchesFrom counts slots k (s .last))
 
-        r-s : r ≡ record { charge = z .charge + (onCharge s + startCharge q (z .state) s); state = x }
-        r-s = g ∙ ap (λ n. withSlots q (from + 1) (replicate n x) z) long ∙ withSlots-stretch q s z (omega (arith, e .after))
-          where
-            long : end - from ≡ suc end - (from + 1)
-            long = omega arith
+          r-s : r ≡ record { charge = z .charge + (onCharge s + startCharge q (z .state) s); state = s .state }
+          r-s =
+              g
+              ∙ same (from + 1) (s .last - from) (sym (f .begins)) (omega (arith, f .begins, f .ends .after))
+              ∙ withSlots-stretch q s z (omega (arith, f .begins, f .ends .after))
+            where
+              same : (t n : ℕ) → t ≡ s .first → n ≡ extent s
+                  → withSlots q t (replicate n (s .state)) z
+                  ≡ withSlots q (s .first) (replicate (extent s) (s .state)) z
+              same t n p o = rw (p, o)
 
-        to : TallyTo q end (withSlots q (from + 1) (replicate (end - from) x) z)
-        to = rw here at (tallyTo-slots q from (from + 1) (replicate (end - from) x) z (u .before))
-          where
-            here : from + length (replicate (end - from) x) ≡ end
-            here = omega (arith, e .after, length-replicate (end - from) x)
+          to : TallyTo q (s .last) (withSlots q (from + 1) (replicate (s .last - from) (s .state)) z)
+          to = rw here at (tallyTo-slots q from (from + 1) (replicate (s .last - from) (s .state)) z (u .before))
+            where
+              here : from + length (replicate (s .last - from) (s .state)) ≡ s .last
+              here = omega (arith, f .ends .after, length-replicate (s .last - from) (s .state))
 
-        next : chargeFrom q (z .state) (map (listed slots q) (stretchesFrom counts slots k from))
-            ≡ onCharge s + startCharge q (z .state) s + chargeFrom q (r .state) (map (listed slots q) (stretchesFrom counts slots k end))
-        next =
-            ap (λ vs. chargeFrom q (z .state) (map (listed slots q) vs)) (e .next)
-            ∙ rw (← p, ← f, ap (λ (y : Tally). y .state) r-s)
+          next : chargeFrom q (z .state) (map (listed slots q k) (stretchesFrom counts slots k from))
+              ≡ onCharge s + startCharge q (z .state) s + chargeFrom q (r .state) left
+          next =
+              ap (λ vs. chargeFrom q (z .state) (map (listed slots q k) vs)) (f .ends .next)
+              ∙ ap (λ (x : Stretch). chargeFrom q (z .state) (x ∷ left)) (sym (f .is))
+              ∙ rw (ap (λ (y : Tally). y .state) r-s)
 
     pub talliedTo-end : slots ≤ from → z .charge ≡ blowerCharge q (listedFor q (take slots counts) k)
     unfolding chargeFrom
@@ -118,7 +136,7 @@ module _ (q : ℕ) (counts : List ℕ) (slots k : ℕ) (can : CanTally counts sl
         last : from ≡ slots
         last = omega (arith, u .in-day)
 
-        none : chargeFrom q (z .state) (map (listed slots q) (stretchesFrom counts slots k from)) ≡ 0
+        none : chargeFrom q (z .state) (map (listed slots q k) (stretchesFrom counts slots k from)) ≡ 0
         none = rw (last, stretchesFrom-end counts slots k)
 
 -- ---- all blowers

@@ -7,31 +7,35 @@ use Prim.Native.Nat.{ℕ, suc, _+_, _*_, _≤_, _<_}
 use native.Mathlib.Omega.{arith}
 use lib.ListN.{length, replicate, length-replicate}
 use Rattle.common.specs.Lists.{range, sum}
-use Rattle.stretches.specs.Intervals.{Interval, intervals, busyIn}
-use Rattle.stretches.specs.IntervalLaws.{Fill, intervals-fill}
+use Rattle.method.specs.Intervals.{Interval, intervals, busyIn}
+use Rattle.method.specs.IntervalLaws.{Fill, intervals-fill}
+use Rattle.energy.specs.Energy.{listed, listedFor}
+use Rattle.energy.specs.declared.Stretch.{Stretch}
 use Rattle.bill.specs.declared.Tally.{Tally}
-use Rattle.bill.specs.Bill.{Stretch, extent, onCharge, startCharge, chargeFrom, blowerCharge, listed, listedFor, charge, centsOf, amountOf}
+use Rattle.bill.specs.Bill.{extent, onCharge, startCharge, chargeFrom, blowerCharge, charge, centsOf, amountOf}
 use Rattle.bill.specs.BillLaws.{charge-most}
 use Rattle.bill.specs.Tally.{noTally, withSlots, statesOf, tallyOf}
 use Rattle.bill.specs.TallyLaws.{withSlots-stretch, withSlots-append}
 
 -- stretches that fill the slots after `from`, one after another
-tally-charge : (f : ℕ → Bool) (d q to from : ℕ) (vs : List Interval) (y : Tally) → Fill f to from vs
-    → withSlots q (suc from) (statesOf (map (listed d q) vs)) y .charge ≡ y .charge + chargeFrom q (y .state) (map (listed d q) vs)
+tally-charge : (f : ℕ → Bool) (d q k to from : ℕ) (vs : List Interval) (y : Tally) → Fill f to from vs
+    → withSlots q (suc from) (statesOf (map (listed d q k) vs)) y .charge
+    ≡ y .charge + chargeFrom q (y .state) (map (listed d q k) vs)
 unfolding withSlots statesOf chargeFrom listed
-tally-charge f d q to from [] y h = omega arith
-tally-charge f d q to from (v ∷ vs) y h =
+tally-charge f d q k to from [] y h = omega arith
+tally-charge f d q k to from (v ∷ vs) y h =
     ap (λ (z : Tally). z .charge) (withSlots-append q (suc from) (replicate (extent s) (s .state)) (statesOf ss) y)
     ∙ ap (λ t. withSlots q t (statesOf ss) (withSlots q (suc from) (replicate (extent s) (s .state)) y) .charge) next
     ∙ ap (λ z. withSlots q (suc (v .last)) (statesOf ss) z .charge) taken
-    ∙ tally-charge f d q to (v .last) vs (record { charge = y .charge + (onCharge s + startCharge q (y .state) s); state = s .state }) (h .1)
+    ∙ tally-charge f d q k to (v .last) vs
+    (record { charge = y .charge + (onCharge s + startCharge q (y .state) s); state = s .state }) (h .1)
     ∙ omega arith
   where
     s : Stretch
-    s = listed d q v
+    s = listed d q k v
 
     ss : List Stretch
-    ss = map (listed d q) vs
+    ss = map (listed d q k) vs
 
     next : suc from + length (replicate (extent s) (s .state)) ≡ suc (v .last)
     next = omega (arith, length-replicate (extent s) (s .state), h .0 .begins, h .0 .filled)
@@ -43,7 +47,9 @@ tally-charge f d q to from (v ∷ vs) y h =
 pub tally-is-charge : (q : ℕ) (counts : List ℕ) (k : ℕ) → tallyOf q counts k .charge ≡ blowerCharge q (listedFor q counts k)
 unfolding tallyOf listedFor blowerCharge
 tally-is-charge q counts k =
-    tally-charge (busyIn counts k) (length counts) q (length counts) 0 (intervals counts k) noTally (intervals-fill counts k) ∙ omega arith
+    tally-charge (busyIn counts k) (length counts) q k (length counts) 0 (intervals counts k) noTally
+    (intervals-fill counts k)
+    ∙ omega arith
 
 -- The blowers' tallies add up to the day's charge.
 pub tallies-add-up : (m q : ℕ) (counts : List ℕ) → sum (map (λ k. tallyOf q counts k .charge) (range 1 m)) ≡ charge m q counts

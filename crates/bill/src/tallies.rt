@@ -4,8 +4,9 @@ use crate::rates;
 ghost use mathlib.Core.Path.{_≡_};
 ghost use Prim.Native.Nat.{_+_, _-_, _≤_};
 ghost use lib.ListN.{take, replicate};
+ghost use Rattle.energy.specs.Energy.{listedFor};
 ghost use Rattle.energy.specs.Usage.{CanCharge};
-ghost use Rattle.bill.specs.Bill.{blowerCharge, listedFor, charge};
+ghost use Rattle.bill.specs.Bill.{blowerCharge, charge};
 ghost use Rattle.bill.specs.Tally.{slotCharge, withSlot, withSlots, CanAddSlot, CanAddSlots, CanTally};
 
 // What a slot costs in its state, after the state before it.
@@ -70,11 +71,9 @@ fn blower_charge(counts: &[u8; 96], slots: usize, blower: u32, wake: u32) -> u32
     };
     let mut from = 0;
     while from < slots {
-        let busy = stretches::is_busy(blower, counts[from]);
-        let end = stretches::stretch_end(counts, slots, blower, from);
-        let state = energy::stretch_state(slots, wake, from + 1, end, busy);
-        tally = with_stretch(tally, wake, from, end, state);
-        from = end;
+        let stretch = energy::stretch_at(counts, slots, blower, wake, from);
+        tally = with_stretch(tally, wake, from, stretch.last, stretch.state);
+        from = stretch.last;
     }
     tally.charge
 }

@@ -5,7 +5,8 @@ use Prim.Native.Nat.{ℕ, _+_, _*_}
 use lib.Dec.{leb, eqb}
 use lib.ListN.{length}
 use Rattle.common.specs.Lists.{range, sum}
-use Rattle.stretches.specs.Intervals.{Interval, intervals, size}
+use Rattle.method.specs.Intervals.{Interval, intervals, size}
+use Rattle.energy.specs.declared.Stretch.{Stretch}
 
 -- a stretch that touches slot 1 or the last slot
 unfoldable pub atEnd : (slots : ℕ) → Interval → Bool
@@ -15,6 +16,14 @@ atEnd slots v = eqb (v .first) 1 || eqb (v .last) slots
 -- shorter one is on (1)
 unfoldable pub state : (slots wake : ℕ) → Interval → ℕ
 state d q v = cond (v .busy) 2 (cond (atEnd d v || leb q (size v)) 0 1)
+
+-- what its line of the listing gives of a stretch of blower k
+unfoldable pub listed : (slots wake k : ℕ) → Interval → Stretch
+listed d q k v = record { blower = k; first = v .first; last = v .last; state = state d q v }
+
+-- the stretches that are listed for blower k
+unfoldable pub listedFor : (wake : ℕ) → (counts : List ℕ) → (k : ℕ) → List Stretch
+listedFor q counts k = map (listed (length counts) q k) (intervals counts k)
 
 -- One blower -------------------------------------------------------------------
 

@@ -9,8 +9,8 @@ use native.Mathlib.Omega.{arith}
 use lib.Dec.{leb, eqb, leb·zero, leb·suc-suc, eqb·suc-zero}
 use lib.ListN.{length, length-map}
 use Rattle.common.specs.Lists.{range, sum}
-use Rattle.stretches.specs.Intervals.{Interval, join, runs, intervals, size}
-use Rattle.stretches.specs.FrontRunLaws.{stretch, frontRun, runs-front}
+use Rattle.method.specs.Intervals.{Interval, join, runs, intervals, size}
+use Rattle.method.specs.FrontRunLaws.{stretch, frontRun, runs-front}
 use Rattle.energy.specs.Energy.{state, onIn, onSlots, startAt, startsFrom, startsOf, starts, on, energy}
 
 -- Stretches --------------------------------------------------------------------

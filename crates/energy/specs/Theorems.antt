@@ -6,7 +6,7 @@ use Prim.Native.Nat.{ℕ, _≤_}
 use native.Mathlib.Omega.{arith}
 use lib.Dec.{leb}
 use borrow.Author.Tests.{le-leb, leb-true}
-use Rattle.stretches.specs.Intervals.{Interval, size}
+use Rattle.method.specs.Intervals.{Interval, size}
 use Rattle.energy.specs.Energy.{atEnd, state}
 
 module _ (slots wake : ℕ) (v : Interval) (idle : v .busy ≡ false) where

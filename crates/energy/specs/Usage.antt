@@ -1,12 +1,22 @@
--- What the calls answer: on slots and starts of a blower, energy and starts of a day. Assumes nothing.
+-- What the calls answer: the stretch at a place, on slots and starts of a blower, energy and starts of a day. Assumes
+-- nothing.
 use mathlib.Core.Path.{_≡_}
-use mathlib.Core.List.{List}
+use mathlib.Core.List.{List, map}
 use Prim.Native.Nat.{ℕ, _≤_}
-use lib.ListN.{length}
-use Rattle.stretches.specs.Intervals.{Interval}
-use Rattle.energy.specs.Energy.{onSlots, startsOf, starts, energy}
+use lib.ListN.{length, getD}
+use Rattle.method.specs.Intervals.{Interval}
+use Rattle.method.specs.FrontRunLaws.{stretchesFrom}
+use Rattle.energy.specs.Energy.{listed, onSlots, startsOf, starts, energy}
+use Rattle.energy.specs.declared.Stretch.{Stretch}
 use Rattle.energy.specs.declared.BlowerUse.{BlowerUse}
 use Rattle.energy.specs.declared.DayUse.{DayUse}
+
+abbrev pub noStretch : Stretch
+noStretch = record { blower = 0; first = 0; last = 0; state = 0 }
+
+-- the stretch of blower k that begins in slot from + 1: the first of those from there on
+unfoldable pub stretchAt : (wake : ℕ) → (counts : List ℕ) → (slots k from : ℕ) → Stretch
+stretchAt q counts slots k from = getD (map (listed slots q k) (stretchesFrom counts slots k from)) 0 noStretch
 
 unfoldable pub blowerUse : (slots wake : ℕ) → List Interval → BlowerUse
 blowerUse d q vs = record { on = onSlots d q vs; starts = startsOf d q vs }

@@ -6,16 +6,18 @@ use Prim.Native.Nat.{ℕ, suc, _+_, _-_, _*_, _≤_, _<_}
 use native.Mathlib.Nat.{mul-le-mul}
 use native.Mathlib.Numerals.{add-one}
 use native.Mathlib.Omega.{arith}
-use lib.Dec.{leb, eqb}
-use lib.ListN.{length, getD, take, length-take}
+use lib.Dec.{eqb}
+use lib.ListN.{length, take, length-take}
 use lib.Seq.{length-take-le}
 use borrow.Author.Tests.{eq-eqb, ne-eqb, le-leb, lt-leb}
 use Rattle.common.specs.Lists.{range, sum}
-use Rattle.stretches.specs.Intervals.{Interval, intervals, size}
-use Rattle.stretches.specs.FrontRunLaws.{stretch, stretchesFrom, stretchesFrom-begin, stretchesFrom-end, EndsAt}
-use Rattle.energy.specs.Energy.{atEnd, state, onIn, onSlots, startAt, startsFrom, startsOf, starts, on, energy}
+use Rattle.method.specs.Intervals.{Interval, intervals, size, busyIn}
+use Rattle.method.specs.FrontRunLaws.{stretch, stretchesFrom, stretchesFrom-begin, stretchesFrom-end, EndsAt}
+use Rattle.energy.specs.Energy.{atEnd, state, listed, onIn, onSlots, startAt, startsFrom, startsOf, starts, on, energy}
+use Rattle.energy.specs.StretchLaws.{Found}
 use Rattle.energy.specs.EnergyLaws.{onIn-le, startAt-le, onSlots-le, startsOf-le}
 use Rattle.energy.specs.Usage.{blowerUse, dayUse, Day, CanCharge}
+use Rattle.energy.specs.declared.Stretch.{Stretch}
 use Rattle.energy.specs.declared.BlowerUse.{BlowerUse}
 use Rattle.energy.specs.declared.DayUse.{DayUse}
 
@@ -85,7 +87,7 @@ pub record UsedTo (q : ℕ) (counts : List ℕ) (slots k from before : ℕ) (use
   pub on-all : onSlots slots q (intervals (take slots counts) k) ≡ used + onSlots slots q (stretchesFrom counts slots k from)
   pub starts-all : startsOf slots q (intervals (take slots counts) k) ≡ started + startsFrom before (map (state slots q) (stretchesFrom counts slots k from))
 
-module _ (q : ℕ) (counts : List ℕ) (slots k : ℕ) where
+module _ {q : ℕ} {counts : List ℕ} {slots k : ℕ} where
   pub usedTo-begin : UsedTo q counts slots k 0 0 0 0
   unfolding startsOf
   usedTo-begin =
@@ -97,30 +99,40 @@ module _ (q : ℕ) (counts : List ℕ) (slots k : ℕ) where
         starts-all = ap (λ vs. startsFrom 0 (map (state slots q) vs)) (stretchesFrom-begin counts slots k) ∙ omega arith;
       }
 
-  module _ (from before used started : ℕ) (u : UsedTo q counts slots k from before used started) where
-    pub usedTo-more : (end x n s : ℕ) (b : Bool) → EndsAt counts slots k from end → b ≡ leb k (getD counts from 0) → x ≡ state slots q (stretch (from + 1) end b) → n ≡ onIn x (end - from)
-        → s ≡ startAt before x → UsedTo q counts slots k end x (used + n) (started + s)
-    unfolding onSlots startsFrom
-    usedTo-more end x n s b e p f g h =
+  module _ {from before used started : ℕ} (u : UsedTo q counts slots k from before used started) where
+    pub usedTo-more : {t : Stretch} {n s : ℕ} → Found q counts slots k from t → n ≡ onIn (t .state) (t .last - from)
+        → s ≡ startAt before (t .state) → UsedTo q counts slots k (t .last) (t .state) (used + n) (started + s)
+    unfolding onSlots startsFrom listed
+    usedTo-more {t} {n} {s} f g h =
         record {
           in-day = e .within;
-          on-few = omega (arith, onIn-le x (end - from));
-          starts-few = omega (arith, startAt-le before x);
+          on-few = omega (arith, e .after, onIn-le (t .state) (t .last - from));
+          starts-few = omega (arith, e .after, startAt-le before (t .state));
           on-all = omega (arith, u .on-all, more);
           starts-all = omega (arith, u .starts-all, begun);
         }
       where
+        e : EndsAt counts slots k from (t .last)
+        e = f .ends
+
         v : Interval
-        v = stretch (from + 1) end (leb k (getD counts from 0))
+        v = stretch (from + 1) (t .last) (busyIn counts k from)
 
-        x-v : x ≡ state slots q v
-        x-v = f ∙ ap (λ c. state slots q (stretch (from + 1) end c)) p
+        state-v : t .state ≡ state slots q v
+        state-v = ap (λ (y : Stretch). y .state) (f .is)
 
-        more : onSlots slots q (stretchesFrom counts slots k from) ≡ n + onSlots slots q (stretchesFrom counts slots k end)
-        more = ap (onSlots slots q) (e .next) ∙ ap (λ m. m + onSlots slots q (stretchesFrom counts slots k end)) (rw (size-places from end (leb k (getD counts from 0)) (e .after), ← x-v) (sym g))
+        left : List Interval
+        left = stretchesFrom counts slots k (t .last)
 
-        begun : startsFrom before (map (state slots q) (stretchesFrom counts slots k from)) ≡ s + startsFrom x (map (state slots q) (stretchesFrom counts slots k end))
-        begun = ap (λ vs. startsFrom before (map (state slots q) vs)) (e .next) ∙ rw (← x-v, h)
+        on-v : onIn (state slots q v) (size v) ≡ n
+        on-v = rw (size-places from (t .last) (busyIn counts k from) (e .after), ← state-v) (sym g)
+
+        more : onSlots slots q (stretchesFrom counts slots k from) ≡ n + onSlots slots q left
+        more = ap (onSlots slots q) (e .next) ∙ ap (λ m. m + onSlots slots q left) on-v
+
+        begun : startsFrom before (map (state slots q) (stretchesFrom counts slots k from))
+            ≡ s + startsFrom (t .state) (map (state slots q) left)
+        begun = ap (λ vs. startsFrom before (map (state slots q) vs)) (e .next) ∙ rw (← state-v, h)
 
     pub usedTo-end : slots ≤ from → record { on = used; starts = started } ≡ blowerUse slots q (intervals (take slots counts) k)
     unfolding blowerUse onSlots startsFrom

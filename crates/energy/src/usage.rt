@@ -1,33 +1,12 @@
-// States, on slots and starts, from the counts of the slots.
+// On slots and starts, from the counts of the slots.
 use crate::BlowerUse;
 use crate::DayUse;
+use crate::states;
 ghost use mathlib.Core.Path.{_≡_};
-ghost use Prim.Native.Nat.{_≤_, _<_};
 ghost use lib.ListN.{take};
-ghost use Rattle.stretches.specs.Intervals.{intervals};
-ghost use Rattle.stretches.specs.FrontRunLaws.{stretch};
-ghost use Rattle.energy.specs.Energy.{state, onIn, startAt};
+ghost use Rattle.method.specs.Intervals.{intervals};
+ghost use Rattle.energy.specs.Energy.{onIn, startAt};
 ghost use Rattle.energy.specs.Usage.{blowerUse, dayUse, Day, CanCharge};
-
-// The state of a stretch in a day of so many slots: 0 off, 1 idle and on, 2 busy. At the ends of the day an idle stretch is off at any length.
-pub fn stretch_state(slots: usize, wake: u32, first: usize, last: usize, busy: bool) -> u32
-    requires { ⌜ (first ≤ last) × (last ≤ 96) ⌝ }
-    ensures { λ r. ⌜ r ≡ state slots wake (stretch first last busy) ⌝ }
-{
-    if busy {
-        return 2;
-    }
-    if first == 1 {
-        return 0;
-    }
-    if last == slots {
-        return 0;
-    }
-    if wake as usize <= last + 1 - first {
-        return 0;
-    }
-    1
-}
 
 // Of so many slots in one state, those in which the blower is on.
 fn on_in(state: u32, slots: usize) -> usize
@@ -59,13 +38,11 @@ fn blower_use(counts: &[u8; 96], slots: usize, blower: u32, wake: u32) -> Blower
     let mut before = 0;
     let mut from = 0;
     while from < slots {
-        let busy = stretches::is_busy(blower, counts[from]);
-        let end = stretches::stretch_end(counts, slots, blower, from);
-        let state = stretch_state(slots, wake, from + 1, end, busy);
-        on += on_in(state, end - from);
-        starts += start_at(before, state);
-        before = state;
-        from = end;
+        let stretch = states::stretch_at(counts, slots, blower, wake, from);
+        on += on_in(stretch.state, stretch.last - from);
+        starts += start_at(before, stretch.state);
+        before = stretch.state;
+        from = stretch.last;
     }
     BlowerUse { on, starts }
 }

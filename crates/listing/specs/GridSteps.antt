@@ -11,15 +11,14 @@ use lib.Seq.{take-suc, take-at, drop-at, drop-append-add, drop-append-le, length
 use borrow.Author.Fill.{fill-more}
 use Rattle.common.specs.Lists.{range, flatMap}
 use Rattle.common.specs.Bits.{bit}
-use Rattle.sheet.specs.Limits.{maxSlots, maxRations}
-use Rattle.sheet.specs.Calls.{padded, over}
-use Rattle.sheet.specs.Parts.{putAt}
-use Rattle.sheet.specs.PutLaws.{set-putAt, putAt-append, length-putAt}
-use Rattle.listing.specs.Sizes.{gridBytes}
-use Rattle.listing.specs.Text.{bytesOf, rowBytes, gridOf}
-use Rattle.listing.specs.Inputs.{rowOf, placingOf}
-use Rattle.listing.specs.Putting.{putAt-nothing}
-use Rattle.listing.specs.FeedLaws.{one-bit}
+use Rattle.checks.specs.Limits.{maxSlots, maxRations}
+use Rattle.common.specs.Buffers.{padded, over, putAt}
+use Rattle.common.specs.BufferLaws.{set-putAt, putAt-append, length-putAt}
+use Rattle.plan_lines.specs.Sizes.{gridBytes}
+use Rattle.plan_lines.specs.Text.{bytesOf, rowBytes, gridOf}
+use Rattle.plan_lines.specs.Inputs.{rowOf, placingOf}
+use Rattle.plan_lines.specs.Putting.{putAt-nothing}
+use Rattle.plan_lines.specs.FeedLaws.{one-bit}
 
 -- Zeros --------------------------------------------------------------------------------
 

@@ -1,9 +1,8 @@
 -- How a held sheet's listing is put: one slot more, then the head line. Assumes nothing.
-use mathlib.Core.Path.{_≡_, refl, sym, ap, _∙_, subst}
+use mathlib.Core.Path.{_≡_, refl, sym, ap, _∙_}
 use mathlib.Core.Bool.{Bool, true, false, cond}
 use mathlib.Core.List.{List, [], _∷_, _++_, map, map-append}
 use Prim.Native.Nat.{ℕ, suc, _+_, _*_, _≤_, _<_}
-use native.Mathlib.Nat.{mul-le-mul}
 use native.Mathlib.Numerals.{add-one}
 use native.Mathlib.Omega.{arith}
 use lib.Dec.{ltb}
@@ -11,17 +10,18 @@ use lib.ListN.{length, getD, take, length-map, length-take}
 use borrow.Author.Tests.{lt-ltb, le-ltb}
 use Rattle.common.specs.Lists.{part, count}
 use Rattle.common.specs.ListLaws.{part-cons, part-none, part-front, count-le-length}
-use Rattle.sheet.specs.Limits.{lineBytes, maxSlots, maxBlowers}
-use Rattle.sheet.specs.Sheet.{writeLine}
-use Rattle.sheet.specs.Parts.{putAt}
-use Rattle.sheet.specs.PutLaws.{length-putAt}
-use Rattle.placing.specs.Slots.{Slots}
-use Rattle.listing.specs.Sizes.{wordBytes, planBytes}
-use Rattle.listing.specs.Lines.{Line, line, membersFrom, memberLines, heldLines}
-use Rattle.listing.specs.Text.{writeLines, heldWord, heldText}
-use Rattle.listing.specs.Inputs.{setOf}
-use Rattle.listing.specs.Putting.{Put, Putting, Room, putting-begin, putting-more, putting-room, putting-end, put-one, putAt-nothing, length-writeLines}
+use Rattle.line.specs.Layout.{lineBytes}
+use Rattle.line.specs.Line.{writeLine}
+use Rattle.common.specs.Buffers.{putAt}
+use Rattle.common.specs.BufferLaws.{length-putAt}
+use Rattle.schedules.specs.Slots.{Slots}
+use Rattle.plan_lines.specs.Sizes.{wordBytes, planBytes}
+use Rattle.plan_lines.specs.Lines.{Line, line, membersFrom, memberLines, heldLines}
+use Rattle.plan_lines.specs.Text.{writeLines, heldWord, heldText}
+use Rattle.plan_lines.specs.Inputs.{setOf}
+use Rattle.plan_lines.specs.Putting.{Put, Putting, Room, putting-begin, putting-more, putting-room, putting-end, put-one, putAt-nothing, length-writeLines}
 use Rattle.listing.specs.Opening.{Written, listing-written, listing-length}
+use Rattle.checks.specs.Refusals.{noPlacing}
 
 -- One slot ---------------------------------------------------------------------------
 
@@ -105,28 +105,28 @@ module _ (marks : List ℕ) (slots at : ℕ) (old : List ℕ) (can : CanPutMembe
 
 -- The listing ------------------------------------------------------------------------
 
-pub record CanPutHeld (out : List ℕ) (slots blowers : ℕ) (marks : List ℕ) : Type 0 where
+pub record CanPutHeld (out : List ℕ) (slots : ℕ) (marks : List ℕ) : Type 0 where
   pub day : slots ≤ 96
-  pub few : blowers ≤ maxBlowers
   pub long : length marks ≡ 96
   pub room : planBytes ≤ length out
 
-module _ (slots blowers : ℕ) (marks old : List ℕ) (can : CanPutHeld old slots blowers marks) where
+module _ {slots : ℕ} {marks old : List ℕ} (can : CanPutHeld old slots marks) where
   -- the slots shown are slots of the day
   members-few : length (memberLines 1 (setOf slots marks)) ≤ 96
   unfolding setOf
   members-few =
       omega (arith, length-memberLines 1 (setOf slots marks), count-le-length (setOf slots marks), length-map (take slots marks) (ltb 0), length-take slots marks, can .day)
 
-  pub held-can : (o₁ : List ℕ) → o₁ ≡ putAt 0 heldWord old → CanPutMembers o₁ (wordBytes + lineBytes) slots marks
-  held-can o₁ e =
+  pub held-can : {o₁ : List ℕ} → o₁ ≡ putAt 0 heldWord old → CanPutMembers o₁ (wordBytes + lineBytes) slots marks
+  held-can e =
       record {
         day = can .day;
         long = can .long;
         room = omega (arith, members-few, ap length e ∙ length-putAt 0 heldWord old (omega (arith, can .room)), can .room);
       }
 
-  module _ (o₁ o₂ : List ℕ) (n : ℕ) (e₁ : o₁ ≡ putAt 0 heldWord old) (s : Put (memberLines 1 (setOf slots marks)) (wordBytes + lineBytes) o₁ o₂ n) where
+  module _ {o₁ o₂ : List ℕ} {n : ℕ} (e₁ : o₁ ≡ putAt 0 heldWord old)
+      (s : Put (memberLines 1 (setOf slots marks)) (wordBytes + lineBytes) o₁ o₂ n) where
     pub held-few : n ≤ 96
     held-few = omega (arith, s .number, members-few)
 
@@ -135,27 +135,23 @@ module _ (slots blowers : ℕ) (marks old : List ℕ) (can : CanPutHeld old slot
         omega (
           arith,
           ap length e₁ ∙ length-putAt 0 heldWord old (omega (arith, can .room)),
-          ap length (s .text) ∙ length-putAt (wordBytes + lineBytes) (writeLines (memberLines 1 (setOf slots marks))) o₁ (omega (arith, length-writeLines (memberLines 1 (setOf slots marks)), held-can o₁ e₁ .room)),
+          ap length (s .text)
+              ∙ length-putAt (wordBytes + lineBytes) (writeLines (memberLines 1 (setOf slots marks))) o₁
+              (omega (arith, length-writeLines (memberLines 1 (setOf slots marks)), held-can e₁ .room)),
           can .room,
         )
-
-    pub held-capacity : n * blowers ≤ maxSlots * maxBlowers
-    held-capacity = mul-le-mul held-few (can .few)
 
     counted : n ≡ count (setOf slots marks)
     counted = s .number ∙ length-memberLines 1 (setOf slots marks)
 
-    with-capacity : (forced capacity : ℕ) (o₃ : List ℕ) → o₃ ≡ putAt wordBytes (writeLine 12 n forced capacity) o₂
+    pub held-written : (forced capacity : ℕ) (o₃ : List ℕ)
+        → o₃ ≡ putAt wordBytes (writeLine noPlacing n forced capacity) o₂
         → Written (heldText (setOf slots marks) forced capacity) old o₃ (wordBytes + lineBytes * (n + 1))
     unfolding heldText heldLines
-    with-capacity forced capacity o₃ e₃ =
+    held-written forced capacity o₃ e₃ =
         record {
           bytes =
-              listing-written heldWord refl old (line 12 (count (setOf slots marks)) forced capacity) (memberLines 1 (setOf slots marks)) o₁ o₂ o₃ (omega (arith, members-few, can .room)) e₁ (s .text)
-              (e₃ ∙ ap (λ k. putAt wordBytes (writeLine 12 k forced capacity) o₂) counted);
-          size = sym (listing-length heldWord refl old (line 12 (count (setOf slots marks)) forced capacity ∷ memberLines 1 (setOf slots marks)) ∙ omega (arith, s .number));
+              listing-written heldWord refl old (line noPlacing (count (setOf slots marks)) forced capacity) (memberLines 1 (setOf slots marks)) o₁ o₂ o₃ (omega (arith, members-few, can .room)) e₁ (s .text)
+              (e₃ ∙ ap (λ k. putAt wordBytes (writeLine noPlacing k forced capacity) o₂) counted);
+          size = sym (listing-length heldWord refl old (line noPlacing (count (setOf slots marks)) forced capacity ∷ memberLines 1 (setOf slots marks)) ∙ omega (arith, s .number));
         }
-
-    pub held-written : (forced : ℕ) (o₃ : List ℕ) → o₃ ≡ putAt wordBytes (writeLine 12 n forced (n * blowers)) o₂
-        → Written (heldText (setOf slots marks) forced (count (setOf slots marks) * blowers)) old o₃ (wordBytes + lineBytes * (n + 1))
-    held-written forced o₃ e₃ = subst (λ k. Written (heldText (setOf slots marks) forced (k * blowers)) old o₃ (wordBytes + lineBytes * (n + 1))) counted (with-capacity forced (n * blowers) o₃ e₃)

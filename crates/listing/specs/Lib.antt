@@ -1,16 +1,5 @@
--- Definitions, in reading order
-pub mod Sizes
-pub mod Lines
-pub mod Text
 -- What the functions within the crate require and ensure, and the steps of their loops
-pub mod Inputs
-pub mod Putting
 pub mod Opening
-pub mod SetBits
-pub mod FeedLaws
-pub mod LengthLaws
-pub mod StretchSteps
-pub mod FeedSteps
 pub mod GridSteps
 pub mod HeldSteps
 pub mod PlanSteps

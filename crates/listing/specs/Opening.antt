@@ -4,16 +4,15 @@ use mathlib.Core.List.{List, [], _∷_, _++_}
 use Prim.Native.Nat.{ℕ, _+_, _*_, _≤_, _<_}
 use native.Mathlib.Omega.{arith}
 use lib.ListN.{length, set, drop, length-append}
-use Rattle.sheet.specs.Limits.{lineBytes}
-use Rattle.sheet.specs.Sheet.{writeLine}
-use Rattle.sheet.specs.LineLaws.{length-writeLine}
-use Rattle.sheet.specs.Calls.{over}
-use Rattle.sheet.specs.Parts.{putAt}
-use Rattle.sheet.specs.PutLaws.{putAt-append, length-putAt, set-putAt}
-use Rattle.listing.specs.Sizes.{wordBytes}
-use Rattle.listing.specs.Lines.{Line, line}
-use Rattle.listing.specs.Text.{writeLines, heldWord, refusalText}
-use Rattle.listing.specs.Putting.{putAt-nothing, putAt-before, length-writeLines}
+use Rattle.line.specs.Layout.{lineBytes}
+use Rattle.line.specs.Line.{writeLine}
+use Rattle.line.specs.LineLaws.{length-writeLine}
+use Rattle.common.specs.Buffers.{over, putAt}
+use Rattle.common.specs.BufferLaws.{putAt-append, length-putAt, set-putAt}
+use Rattle.plan_lines.specs.Sizes.{wordBytes}
+use Rattle.plan_lines.specs.Lines.{Line, line}
+use Rattle.plan_lines.specs.Text.{writeLines, heldWord, refusalText}
+use Rattle.plan_lines.specs.Putting.{putAt-nothing, putAt-before, length-writeLines}
 
 -- A text was written at the front of a buffer, whose other bytes keep their values, and n is its length.
 pub record Written (text old new : List ℕ) (n : ℕ) : Type 0 where

@@ -6,24 +6,25 @@ use native.Mathlib.Nat.{mul-le-mul}
 use native.Mathlib.Omega.{arith}
 use lib.Count.{ones}
 use lib.ListN.{length, getD, take, length-append, length-take}
-use Rattle.sheet.specs.Limits.{lineBytes, fields, maxSlots, maxBlowers, maxWake, maxRations}
-use Rattle.sheet.specs.Sheet.{writeLine}
-use Rattle.sheet.specs.Parts.{putAt}
-use Rattle.sheet.specs.PutLaws.{putAt-append, length-putAt}
+use Rattle.line.specs.Layout.{lineBytes, fields}
+use Rattle.checks.specs.Limits.{maxSlots, maxBlowers, maxWake, maxRations}
+use Rattle.line.specs.Line.{writeLine}
+use Rattle.common.specs.Buffers.{putAt}
+use Rattle.common.specs.BufferLaws.{putAt-append, length-putAt}
 use Rattle.energy.specs.Energy.{starts, energy}
 use Rattle.energy.specs.Usage.{dayUse, Day, CanCharge}
 use Rattle.energy.specs.declared.DayUse.{DayUse}
 use Rattle.bill.specs.declared.Amount.{Amount}
 use Rattle.bill.specs.Bill.{charge, amountOf}
-use Rattle.listing.specs.Sizes.{wordBytes, planBytes}
-use Rattle.listing.specs.Lines.{Line, Plan, stretchLines, feedLines, billLine, planLines}
-use Rattle.listing.specs.Text.{writeLines, planWord, planText}
-use Rattle.listing.specs.Inputs.{tanksOf, placingOf}
-use Rattle.listing.specs.Putting.{Put, length-writeLines, writeLines-append}
-use Rattle.listing.specs.StretchSteps.{CanPutStretches}
-use Rattle.listing.specs.FeedSteps.{CanPutFeedings}
+use Rattle.plan_lines.specs.Sizes.{wordBytes, planBytes}
+use Rattle.plan_lines.specs.Lines.{Line, Plan, stretchLines, feedLines, billLine, planLines}
+use Rattle.plan_lines.specs.Text.{writeLines, planWord, planText}
+use Rattle.plan_lines.specs.Inputs.{tanksOf, placingOf}
+use Rattle.plan_lines.specs.Putting.{Put, length-writeLines, writeLines-append}
+use Rattle.plan_lines.specs.StretchSteps.{CanPutStretches}
+use Rattle.plan_lines.specs.FeedSteps.{CanPutFeedings}
 use Rattle.listing.specs.Opening.{Written, listing-written, listing-length}
-use Rattle.listing.specs.LengthLaws.{length-stretchLines, length-feedLines-words}
+use Rattle.plan_lines.specs.LengthLaws.{length-stretchLines, length-feedLines-words}
 
 -- the plan that the arrays stand for; past the sheet's rations the words have no bits
 unfoldable pub planOf : (slots blowers wake : ℕ) → (counts numbers words : List ℕ) → Plan

@@ -2,10 +2,10 @@
 ghost use mathlib.Core.Path.{_≡_};
 ghost use mathlib.Core.List.{[], _∷_};
 ghost use lib.ListN.{take};
-ghost use Rattle.sheet.specs.Parts.{putAt};
+ghost use Rattle.common.specs.Buffers.{putAt};
 ghost use Rattle.bill.specs.Bill.{charge};
-ghost use Rattle.listing.specs.Lines.{billLine};
-ghost use Rattle.listing.specs.Text.{writeLines};
+ghost use Rattle.plan_lines.specs.Lines.{billLine};
+ghost use Rattle.plan_lines.specs.Text.{writeLines};
 ghost use Rattle.listing.specs.PlanSteps.{CanPutBill};
 
 // Writes the bill's line at a place of out: whole hundreds of cents, remaining cents, 0, 0.
@@ -15,5 +15,5 @@ pub fn put_bill(out: &mut [u8], at: usize, slots: usize, blowers: u32, wake: u32
 {
     let tenths = bill::day_charge(counts, slots, blowers, wake);
     let amount = bill::amount_of(tenths);
-    sheet::put_line(out, at, amount.hundreds, amount.remaining, 0, 0);
+    line::put_line(out, at, amount.hundreds, amount.remaining, 0, 0);
 }

@@ -1,6 +1,6 @@
 // The placing buffer's bytes: byte (i - 1) * 96 + t - 1 is 1 if ration i is fed in slot t, else 0.
-use crate::sizes::GRID_BYTES;
-use sheet::limits::MAX_SLOTS;
+use checks::limits::MAX_SLOTS;
+use plan_lines::sizes::GRID_BYTES;
 ghost use mathlib.Core.Path.{_≡_};
 ghost use mathlib.Core.Bool.{cond};
 ghost use mathlib.Core.List.{[]};
@@ -8,11 +8,10 @@ ghost use Prim.Native.Nat.{_+_, _≤_, _<_};
 ghost use lib.Dec.{eqb};
 ghost use lib.ListN.{length};
 ghost use Rattle.common.specs.Bits.{bit};
-ghost use Rattle.sheet.specs.Parts.{putAt};
-ghost use Rattle.sheet.specs.Calls.{over};
-ghost use Rattle.listing.specs.Sizes.{gridBytes};
-ghost use Rattle.listing.specs.Text.{bytesOf, gridOf};
-ghost use Rattle.listing.specs.Inputs.{rowOf, placingOf};
+ghost use Rattle.common.specs.Buffers.{putAt, over};
+ghost use Rattle.plan_lines.specs.Sizes.{gridBytes};
+ghost use Rattle.plan_lines.specs.Text.{bytesOf, gridOf};
+ghost use Rattle.plan_lines.specs.Inputs.{rowOf, placingOf};
 ghost use Rattle.listing.specs.GridSteps.{CanPutRow, CanPutGrid};
 
 // Sets every byte of the placing buffer to 0.

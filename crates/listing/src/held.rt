@@ -1,15 +1,14 @@
 // The listing of a sheet held for want of blowers: 12, the number of slots shown, forced, capacity, then a line for each slot.
 use crate::opening;
-use crate::sizes::WORD;
-use sheet::limits::LINE;
-ghost use mathlib.Core.Path.{_≡_};
+use checks::refusals::NO_PLACING;
+use line::layout::LINE;
+use plan_lines::sizes::WORD;
 ghost use Prim.Native.Nat.{_*_};
 ghost use lib.Dec.{ltb};
-ghost use Rattle.common.specs.Lists.{count};
-ghost use Rattle.listing.specs.Lines.{memberLines};
-ghost use Rattle.listing.specs.Text.{heldText};
-ghost use Rattle.listing.specs.Inputs.{setOf};
-ghost use Rattle.listing.specs.Putting.{Put, Room};
+ghost use Rattle.plan_lines.specs.Lines.{memberLines};
+ghost use Rattle.plan_lines.specs.Text.{heldText};
+ghost use Rattle.plan_lines.specs.Inputs.{setOf};
+ghost use Rattle.plan_lines.specs.Putting.{Put, Room};
 ghost use Rattle.listing.specs.Opening.{Written};
 ghost use Rattle.listing.specs.HeldSteps.{memberOf, CanPutMembers, CanPutHeld};
 
@@ -21,7 +20,7 @@ fn put_member(out: &mut [u8], at: usize, slot: u32, mark: u8) -> usize
     if mark == 0 {
         return 0;
     }
-    sheet::put_line(out, at, slot, 0, 0, 0);
+    line::put_line(out, at, slot, 0, 0, 0);
     1
 }
 
@@ -39,14 +38,13 @@ fn put_members(out: &mut [u8], at: usize, slots: usize, marks: &[u8; 96]) -> usi
     n
 }
 
-// Writes the listing of a held sheet, whose set of slots is marked, and answers its length. Every slot has the same number of blowers.
-pub fn put_held(out: &mut [u8], slots: usize, blowers: u32, marks: &[u8; 96], forced: u32) -> usize
-    requires { ⌜ CanPutHeld (now out) slots blowers (now marks) ⌝ }
-    ensures { λ r. ⌜ Written (heldText (setOf slots (now (marks .entry))) forced (count (setOf slots (now (marks .entry))) * blowers)) (now (out .entry)) (now (out .exit)) r ⌝ }
+// Writes the listing of a held sheet, whose set of slots is marked, and answers its length.
+pub fn put_held(out: &mut [u8], slots: usize, marks: &[u8; 96], forced: u32, capacity: u32) -> usize
+    requires { ⌜ CanPutHeld (now out) slots (now marks) ⌝ }
+    ensures { λ r. ⌜ Written (heldText (setOf slots (now (marks .entry))) forced capacity) (now (out .entry)) (now (out .exit)) r ⌝ }
 {
     opening::put_word(out, b'H', b'E', b'L', b'D');
     let n = put_members(out, WORD + LINE, slots, marks);
-    let shown = n as u32;
-    sheet::put_line(out, WORD, 12, shown, forced, shown * blowers);
+    line::put_line(out, WORD, NO_PLACING, n as u32, forced, capacity);
     WORD + LINE * (n + 1)
 }

@@ -1,15 +1,15 @@
 // The word that opens a listing, `PLAN` or `HELD`, and the refusal's listing.
-use crate::sizes::WORD;
-use sheet::limits::LINE;
-use sheet::limits::NEWLINE;
+use line::layout::LINE;
+use line::layout::NEWLINE;
+use plan_lines::sizes::WORD;
 ghost use mathlib.Core.Path.{_≡_};
 ghost use mathlib.Core.List.{[], _∷_};
-ghost use Prim.Native.Nat.{_+_, _*_, _≤_};
+ghost use Prim.Native.Nat.{_+_, _≤_};
 ghost use lib.ListN.{length};
-ghost use Rattle.sheet.specs.Limits.{newline, lineBytes};
-ghost use Rattle.sheet.specs.Parts.{putAt};
-ghost use Rattle.listing.specs.Sizes.{wordBytes};
-ghost use Rattle.listing.specs.Text.{refusalText};
+ghost use Rattle.line.specs.Layout.{newline, lineBytes};
+ghost use Rattle.common.specs.Buffers.{putAt};
+ghost use Rattle.plan_lines.specs.Sizes.{wordBytes};
+ghost use Rattle.plan_lines.specs.Text.{refusalText};
 ghost use Rattle.listing.specs.Opening.{Written};
 
 // Writes a word of four letters and byte 10 at the front of out.
@@ -30,6 +30,6 @@ pub fn put_refusal(out: &mut [u8], number: u32, line: u32) -> usize
     ensures { λ r. ⌜ Written (refusalText number line) (now (out .entry)) (now (out .exit)) r ⌝ }
 {
     put_word(out, b'H', b'E', b'L', b'D');
-    sheet::put_line(out, WORD, number, line, 0, 0);
+    line::put_line(out, WORD, number, line, 0, 0);
     WORD + LINE
 }

@@ -1,11 +1,11 @@
 // The listing of a plan: energy, starts and the numbers of lines, then the stretch lines, the feed lines and the bill.
 use crate::bill_line;
-use crate::feed_lines;
 use crate::opening;
-use crate::sizes::WORD;
-use crate::stretch_lines;
-use sheet::limits::LINE;
-ghost use Rattle.listing.specs.Text.{planText};
+use line::layout::LINE;
+use plan_lines::feed_lines;
+use plan_lines::sizes::WORD;
+use plan_lines::stretch_lines;
+ghost use Rattle.plan_lines.specs.Text.{planText};
 ghost use Rattle.listing.specs.Opening.{Written};
 ghost use Rattle.listing.specs.PlanSteps.{planOf, CanPutPlan};
 
@@ -30,7 +30,7 @@ pub fn put_plan(
     let end = at + LINE * (stretches + feedings);
     bill_line::put_bill(out, end, slots, blowers, wake, counts);
     let day = energy::day_use(counts, slots, blowers, wake);
-    sheet::put_line(
+    line::put_line(
         out,
         WORD,
         day.energy,

@@ -3,7 +3,7 @@ use mathlib.Core.Path.{refl}
 use Prim.Native.Nat.{_-_, _≤_}
 use native.Mathlib.Omega.{arith}
 use mathlib.Core.Path.{refl}
-use Rattle.listing.specs.Sizes.{gridBytes}
+use Rattle.plan_lines.specs.Sizes.{gridBytes}
 use Rattle.listing.specs.GridSteps.{Cleared, cleared-more, cleared-length, cleared-end}
 use Rattle.listing.proofs.grid.clear_grid.Statement.{statement}
 use Rattle.listing.proofs.grid.clear_grid.Tie as tie

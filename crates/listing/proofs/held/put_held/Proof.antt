@@ -1,6 +1,6 @@
 -- `listing::held::put_held` meets its contract. Assumes nothing.
 use native.Mathlib.Omega.{arith}
-use Rattle.listing.specs.HeldSteps.{held-can, held-few, held-capacity, held-room, held-written}
+use Rattle.listing.specs.HeldSteps.{held-can, held-few, held-room, held-written}
 use borrow.Author.Needs.{needs}
 use Rattle.listing.proofs.held.put_held.Statement.{statement}
 use Rattle.listing.proofs.held.put_held.Tie as tie
@@ -12,31 +12,69 @@ add-put-members : tie.Need-add-put-members
 add-put-members c = search needs
 
 put-members-requires : tie.Need-put-members-requires
-put-members-requires c κs = held-can (c .before .before .before .before .before .before .args .slots) (c .before .before .before .before .before .before .args .blowers) (c .before .before .before .before .before .before .args .marks .now) (c .before .before .before .before .before .before .args .out .now) (c .before .before .before .before .before .before .pre) _ (c .before .before .before .put-word .ensures)
+put-members-requires c κs =
+    held-can (c .before .before .before .before .before .before .pre) (c .before .before .before .put-word .ensures)
 
-cast-shown : tie.Need-cast-shown
-cast-shown c = omega (arith, held-few (c .before .before .before .before .before .before .before .before .before .args .slots) (c .before .before .before .before .before .before .before .before .before .args .blowers) (c .before .before .before .before .before .before .before .before .before .args .marks .now) (c .before .before .before .before .before .before .before .before .before .args .out .now) (c .before .before .before .before .before .before .before .before .before .pre) _ _ _ (c .before .before .before .before .before .before .put-word .ensures) (c .before .before .put-members .ensures))
-
-mul-put-line : tie.Need-mul-put-line
-mul-put-line c = omega (arith, held-capacity (c .before .before .before .before .before .before .before .before .before .before .args .slots) (c .before .before .before .before .before .before .before .before .before .before .args .blowers) (c .before .before .before .before .before .before .before .before .before .before .args .marks .now) (c .before .before .before .before .before .before .before .before .before .before .args .out .now) (c .before .before .before .before .before .before .before .before .before .before .pre) _ _ _ (c .before .before .before .before .before .before .before .put-word .ensures) (c .before .before .before .put-members .ensures))
+cast-put-line : tie.Need-cast-put-line
+cast-put-line c =
+    omega (
+      arith,
+      held-few
+          (c .before .before .before .before .before .before .before .before .before .before .pre)
+          (c .before .before .before .before .before .before .before .put-word .ensures)
+          (c .before .before .before .put-members .ensures),
+    )
 
 put-line-requires : tie.Need-put-line-requires
-put-line-requires c κs = held-room (c .before .before .before .before .before .before .before .before .before .before .args .slots) (c .before .before .before .before .before .before .before .before .before .before .args .blowers) (c .before .before .before .before .before .before .before .before .before .before .args .marks .now) (c .before .before .before .before .before .before .before .before .before .before .args .out .now) (c .before .before .before .before .before .before .before .before .before .before .pre) _ _ _ (c .before .before .before .before .before .before .before .put-word .ensures) (c .before .before .before .put-members .ensures)
+put-line-requires c κs =
+    held-room
+    (c .before .before .before .before .before .before .before .before .before .before .pre)
+    (c .before .before .before .before .before .before .before .put-word .ensures)
+    (c .before .before .before .put-members .ensures)
 
 add-result : tie.Need-add-result
-add-result c = omega (arith, held-few (c .before .before .before .before .before .before .before .before .before .before .before .before .before .args .slots) (c .before .before .before .before .before .before .before .before .before .before .before .before .before .args .blowers) (c .before .before .before .before .before .before .before .before .before .before .before .before .before .args .marks .now) (c .before .before .before .before .before .before .before .before .before .before .before .before .before .args .out .now) (c .before .before .before .before .before .before .before .before .before .before .before .before .before .pre) _ _ _ (c .before .before .before .before .before .before .before .before .before .before .put-word .ensures) (c .before .before .before .before .before .before .put-members .ensures))
+add-result c =
+    omega (
+      arith,
+      held-few
+          (c .before .before .before .before .before .before .before .before .before .before .before .before .before .pre)
+          (c .before .before .before .before .before .before .before .before .before .before .put-word .ensures)
+          (c .before .before .before .before .before .before .put-members .ensures),
+    )
 
 mul-result : tie.Need-mul-result
-mul-result c = omega (arith, held-few (c .before .before .before .before .before .before .before .before .before .before .before .before .before .args .slots) (c .before .before .before .before .before .before .before .before .before .before .before .before .before .args .blowers) (c .before .before .before .before .before .before .before .before .before .before .before .before .before .args .marks .now) (c .before .before .before .before .before .before .before .before .before .before .before .before .before .args .out .now) (c .before .before .before .before .before .before .before .before .before .before .before .before .before .pre) _ _ _ (c .before .before .before .before .before .before .before .before .before .before .put-word .ensures) (c .before .before .before .before .before .before .put-members .ensures))
+mul-result c =
+    omega (
+      arith,
+      held-few
+          (c .before .before .before .before .before .before .before .before .before .before .before .before .before .pre)
+          (c .before .before .before .before .before .before .before .before .before .before .put-word .ensures)
+          (c .before .before .before .before .before .before .put-members .ensures),
+    )
 
 add-result-2 : tie.Need-add-result-2
-add-result-2 c = omega (arith, held-few (c .before .before .before .before .before .before .before .before .before .before .before .before .before .args .slots) (c .before .before .before .before .before .before .before .before .before .before .before .before .before .args .blowers) (c .before .before .before .before .before .before .before .before .before .before .before .before .before .args .marks .now) (c .before .before .before .before .before .before .before .before .before .before .before .before .before .args .out .now) (c .before .before .before .before .before .before .before .before .before .before .before .before .before .pre) _ _ _ (c .before .before .before .before .before .before .before .before .before .before .put-word .ensures) (c .before .before .before .before .before .before .put-members .ensures))
+add-result-2 c =
+    omega (
+      arith,
+      held-few
+          (c .before .before .before .before .before .before .before .before .before .before .before .before .before .pre)
+          (c .before .before .before .before .before .before .before .before .before .before .put-word .ensures)
+          (c .before .before .before .before .before .before .put-members .ensures),
+    )
 
 same-length : tie.Need-same-length
 same-length c = search needs
 
 returns : tie.Need-returns
-returns c = held-written (c .before .before .before .before .before .before .before .before .before .before .before .before .before .args .slots) (c .before .before .before .before .before .before .before .before .before .before .before .before .before .args .blowers) (c .before .before .before .before .before .before .before .before .before .before .before .before .before .args .marks .now) (c .before .before .before .before .before .before .before .before .before .before .before .before .before .args .out .now) (c .before .before .before .before .before .before .before .before .before .before .before .before .before .pre) _ _ _ (c .before .before .before .before .before .before .before .before .before .before .put-word .ensures) (c .before .before .before .before .before .before .put-members .ensures) _ _ (c .before .before .put-line .ensures)
+returns c =
+    held-written
+    (c .before .before .before .before .before .before .before .before .before .before .before .before .before .pre)
+    (c .before .before .before .before .before .before .before .before .before .before .put-word .ensures)
+    (c .before .before .before .before .before .before .put-members .ensures)
+    _
+    _
+    _
+    (c .before .before .put-line .ensures)
 
 pub put-held-spec : {M : Type 1} → statement M
 put-held-spec =
@@ -45,8 +83,7 @@ put-held-spec =
     put-word-requires
     add-put-members
     put-members-requires
-    cast-shown
-    mul-put-line
+    cast-put-line
     put-line-requires
     add-result
     mul-result

@@ -1,0 +1,12 @@
+-- Definitions, in reading order
+pub mod Sizes
+pub mod Lines
+pub mod Text
+-- What the functions within the crate require and ensure, and the steps of their loops
+pub mod Inputs
+pub mod Putting
+pub mod SetBits
+pub mod FeedLaws
+pub mod LengthLaws
+pub mod StretchSteps
+pub mod FeedSteps

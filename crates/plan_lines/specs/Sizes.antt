@@ -1,0 +1,17 @@
+-- The sizes of the buffers that a planning call is lent, as document 01 and request 103 give them; src/sizes.rt names the same for the code. Assumes nothing.
+use Prim.Native.Nat.{ℕ, _+_, _*_}
+use Rattle.line.specs.Layout.{lineBytes}
+use Rattle.checks.specs.Limits.{maxSlots, maxBlowers, maxRations}
+
+-- bytes of the word that opens a listing, with its byte 10
+abbrev pub wordBytes : ℕ
+wordBytes = 5
+
+-- the least length of a plan buffer, 32,303: room for the word, the head line, a stretch line and a feed line for each slot of each blower, and the bill's
+-- line
+abbrev pub planBytes : ℕ
+planBytes = wordBytes + lineBytes * (2 + 2 * (maxSlots * maxBlowers))
+
+-- the least length of a placing buffer, 6,144: a byte for each slot of each ration
+abbrev pub gridBytes : ℕ
+gridBytes = maxSlots * maxRations
