@@ -1,6 +1,6 @@
 // Two sheets compared: `C number line same`.
 pub fn answer(first: &[u8], second: &[u8]) {
-    let r = planning::compare(first, second);
+    let r = comparison::compare(first, second);
     io::write_all(1, b"C");
     cases::word(r.number);
     cases::word(r.line);

@@ -1,22 +1,25 @@
--- How a planning call's answer and its lent buffers follow from what it read, found and wrote, whatever buffers it was lent. Assumes nothing.
-use mathlib.Core.Path.{_≡_, refl, sym, ap, subst}
-use mathlib.Core.Bool.{Bool, true, false, _||_}
-use mathlib.Core.List.{List}
+-- How a planning call's answer and its lent buffers follow from what it read, found and wrote, whatever checks its
+-- sheet passed, whatever problem was planned and whatever buffers it was lent. Assumes nothing.
+use mathlib.Core.Path.{_≡_, refl, sym, ap, subst, _∙_}
+use mathlib.Core.Bool.{Bool, true, false, not, _||_}
+use mathlib.Core.List.{List, _++_}
 use Prim.Native.Nat.{ℕ, _≤_, _<_}
 use lib.ListN.{length}
-use borrow.Author.Tests.{lt-ltb, le-ltb}
-use Rattle.sheet.specs.declared.Refusal.{Refusal}
+use borrow.Author.Tests.{lt-ltb, le-ltb, ne-eqb}
+use Rattle.checks.specs.declared.Refusal.{Refusal}
 use Rattle.sheet.specs.declared.Reading.{Reading}
-use Rattle.sheet.specs.Sheet.{Sheet, sheetOf}
-use Rattle.sheet.specs.Calls.{readingOf, over}
+use Rattle.checks.specs.Refusals.{shortBuffer, noPlacing}
+use Rattle.checks.specs.Sheet.{Sheet}
+use Rattle.checks.specs.Checks.{fault, firstRefusal}
+use Rattle.common.specs.Buffers.{over}
+use Rattle.sheet.specs.OwnChecks.{ReadFrom}
+use Rattle.sheet.specs.OwnCheckLaws.{refused-before, accepted-before, not-held}
 use Rattle.stretches.specs.declared.Day.{Day}
-use Rattle.planning.specs.declared.Planned.{Planned}
-use Rattle.listing.specs.Sizes.{planBytes, gridBytes}
+use Rattle.plan_lines.specs.Sizes.{planBytes, gridBytes}
 use Rattle.listing.specs.Opening.{Written}
-use Rattle.planning.specs.Planning.{planRefusal, shortPlan, shortGrid, writes, listedAnswer, unlistedAnswer, listingAfter, gridAfter, listingOf, gridFor}
-use Rattle.planning.specs.NumberLaws.{number-read, silent-read}
-use Rattle.planning.specs.SheetDays.{SheetDay, NumberOf}
-use Rattle.planning.specs.Refusals.{refusal-read, refusal-short, refusal-day, listed-silent, listing-silent, grid-silent, listed-loud, grid-loud, number-loud}
+use Rattle.planning.specs.Problem.{Problem, canBePlanned, listingOf, gridFor}
+use Rattle.planning.specs.Planning.{heldFaults, planChecks, shortPlan, shortGrid, writes, listedAnswer, unlistedAnswer, listingAfter, gridAfter}
+use Rattle.planning.specs.Contracts.{DayOf, NumberOf, Listed}
 
 -- ---- the buffers' lengths
 
@@ -39,83 +42,112 @@ room-grid out l = le-ltb (length out) gridBytes l
 pub neither : (x y : Bool) → x ≡ false → y ≡ false → (x || y) ≡ false
 neither x y e f = rw (e, f)
 
+-- ---- numbers that write nothing, and numbers that write
+
+pub writes-nothing : (n : ℕ) → (n ≡ 0 → ⊥) → (n ≡ noPlacing → ⊥) → writes n ≡ false
+unfolding writes
+writes-nothing n k l = rw (ne-eqb n 0 k, ne-eqb n noPlacing l)
+
+writes-day : (x : Bool) → writes (NumberOf x) ≡ true
+unfolding writes
+writes-day true = refl
+writes-day false = refl
+
+-- an answer of no length, and a buffer as it was
+module _ (f : Refusal) (silent : writes (f .number) ≡ false) where
+  pub listed-nothing : (listing old : List ℕ) → Listed f listing old old (record { number = f .number; line = f .line; length = 0 })
+  unfolding listedAnswer listingAfter
+  listed-nothing listing old = (rw silent, rw silent)
+
+  pub placed-nothing : (grid old : List ℕ) → old ≡ gridAfter f grid old
+  unfolding gridAfter
+  placed-nothing grid old = rw silent
+
+-- a listing written, and a placing
+module _ (f : Refusal) (loud : writes (f .number) ≡ true) where
+  listed-text : (listing : List ℕ) {old new : List ℕ} {n : ℕ} → Written listing old new n → Listed f listing old new (record { number = f .number; line = f .line; length = n })
+  unfolding listedAnswer listingAfter
+  listed-text listing w = (rw loud (λ i. record { number = f .number; line = f .line; length = w .size i }), rw loud (w .bytes))
+
+  placed-bytes : (grid old new : List ℕ) → new ≡ over grid old → new ≡ gridAfter f grid old
+  unfolding gridAfter
+  placed-bytes grid old new w = rw loud w
+
+unlisted : (f : Refusal) → record { number = f .number; line = f .line; length = 0 } ≡ unlistedAnswer f
+unfolding unlistedAnswer
+unlisted f = refl
+
+-- 12 for a held day, none for a planned one
+day-refusal : (p : Problem) (x : Bool) → x ≡ not (canBePlanned p) → firstRefusal (heldFaults p) ≡ record { number = NumberOf x; line = 0 }
+unfolding firstRefusal
+day-refusal p true f = ap (λ y. firstRefusal (fault noPlacing 0 y)) (sym f)
+day-refusal p false f = ap (λ y. firstRefusal (fault noPlacing 0 y)) (sym f)
+
 -- ---- the answers
 
--- a call that was lent a plan buffer: its answer, and the buffer afterwards
-abbrev pub Listed : Refusal → Sheet → (old new : List ℕ) → Planned → Type 0
-Listed f s old new p = (p ≡ listedAnswer f s) × (new ≡ listingAfter f s old)
-
--- what the refusal is, and that it writes nothing
-module _ (f q : Refusal) (s : Sheet) (e : f ≡ q) (silent : writes (q .number) ≡ false) where
-  listed-nothing : (old : List ℕ) → Listed f s old old (record { number = q .number; line = q .line; length = 0 })
-  listed-nothing old =
-      subst (λ x. Listed x s old old (record { number = q .number; line = q .line; length = 0 })) (sym e) (listed-silent q s silent, listing-silent q s silent old)
-
-  placed-nothing : (old : List ℕ) → old ≡ gridAfter f s old
-  placed-nothing old = subst (λ x. old ≡ gridAfter x s old) (sym e) (grid-silent q s silent old)
-
-unlisted : (f q : Refusal) → f ≡ q → record { number = q .number; line = q .line; length = 0 } ≡ unlistedAnswer f
-unfolding unlistedAnswer
-unlisted f q e = ap unlistedAnswer (sym e)
-
-module _ (b : List ℕ) (short : Bool) {r : Reading} (e : r ≡ readingOf b) where
-  abbrev s : Sheet
-  s = sheetOf b
-
+module _ {own : List Refusal} {s : Sheet} {r : Reading} (h : ReadFrom own s r) (p : Problem) (short : Bool) where
   abbrev refusal : Refusal
-  refusal = planRefusal b short
+  refusal = firstRefusal (planChecks own short p)
 
-  -- refused by 1 to 9 or 13
+  -- refused by a check of the sheet alone
   module _ (n : r .number ≡ 0 → ⊥) where
-    by-read : refusal ≡ record { number = r .number; line = r .line }
-    by-read = refusal-read b short e n
+    abbrev read : Refusal
+    read = record { number = r .number; line = r .line }
+
+    by-read : read ≡ refusal
+    by-read = sym (refused-before h n (fault shortBuffer 0 short ++ heldFaults p))
 
     silent : writes (r .number) ≡ false
-    silent = silent-read (r .number) n (number-read b e n)
+    silent = writes-nothing (r .number) n (not-held h n)
 
-    pub listed-read : (old : List ℕ) → Listed refusal s old old (record { number = r .number; line = r .line; length = 0 })
-    listed-read old = listed-nothing _ (record { number = r .number; line = r .line }) s by-read silent old
+    pub listed-read : (listing old : List ℕ) → Listed refusal listing old old (record { number = r .number; line = r .line; length = 0 })
+    listed-read listing old = subst (λ f. Listed f listing old old (record { number = r .number; line = r .line; length = 0 })) by-read (listed-nothing read silent listing old)
 
-    pub placed-read : (old : List ℕ) → old ≡ gridAfter refusal s old
-    placed-read old = placed-nothing _ (record { number = r .number; line = r .line }) s by-read silent old
+    pub placed-read : (grid old : List ℕ) → old ≡ gridAfter refusal grid old
+    placed-read grid old = subst (λ f. old ≡ gridAfter f grid old) by-read (placed-nothing read silent grid old)
 
     pub unlisted-read : record { number = r .number; line = r .line; length = 0 } ≡ unlistedAnswer refusal
-    unlisted-read = unlisted refusal (record { number = r .number; line = r .line }) by-read
+    unlisted-read = unlisted read ∙ ap unlistedAnswer by-read
 
   module _ (z : r .number ≡ 0) where
+    after-read : refusal ≡ firstRefusal (fault shortBuffer 0 short ++ heldFaults p)
+    after-read = accepted-before h z (fault shortBuffer 0 short ++ heldFaults p)
+
     -- refused by 10
     module _ (l : short ≡ true) where
       abbrev tooShort : Refusal
-      tooShort = record { number = 10; line = 0 }
+      tooShort = record { number = shortBuffer; line = 0 }
 
-      by-short : refusal ≡ tooShort
-      by-short = refusal-short b short e z l
+      by-short : tooShort ≡ refusal
+      unfolding firstRefusal
+      by-short = sym (after-read ∙ ap (λ x. firstRefusal (fault shortBuffer 0 x ++ heldFaults p)) l)
 
-      pub listed-short : (old : List ℕ) → Listed refusal s old old (record { number = 10; line = 0; length = 0 })
+      pub listed-short : (listing old : List ℕ) → Listed refusal listing old old (record { number = shortBuffer; line = 0; length = 0 })
       unfolding writes
-      listed-short old = listed-nothing _ tooShort s by-short refl old
+      listed-short listing old = subst (λ f. Listed f listing old old (record { number = shortBuffer; line = 0; length = 0 })) by-short (listed-nothing tooShort refl listing old)
 
-      pub placed-short : (old : List ℕ) → old ≡ gridAfter refusal s old
+      pub placed-short : (grid old : List ℕ) → old ≡ gridAfter refusal grid old
       unfolding writes
-      placed-short old = placed-nothing _ tooShort s by-short refl old
+      placed-short grid old = subst (λ f. old ≡ gridAfter f grid old) by-short (placed-nothing tooShort refl grid old)
 
-      pub unlisted-short : record { number = 10; line = 0; length = 0 } ≡ unlistedAnswer refusal
-      unlisted-short = unlisted refusal tooShort by-short
+      pub unlisted-short : record { number = shortBuffer; line = 0; length = 0 } ≡ unlistedAnswer refusal
+      unlisted-short = unlisted tooShort ∙ ap unlistedAnswer by-short
 
     -- planned, or held
-    module _ (l : short ≡ false) {d : Day} (h : SheetDay b r d) where
+    module _ (l : short ≡ false) {d : Day} (k : DayOf p r d) where
       abbrev outcome : Refusal
       outcome = record { number = NumberOf (d .held); line = 0 }
 
-      by-day : refusal ≡ outcome
-      by-day = refusal-day b short e z l h
+      by-day : outcome ≡ refusal
+      by-day = sym (after-read ∙ ap (λ x. firstRefusal (fault shortBuffer 0 x ++ heldFaults p)) l ∙ day-refusal p (d .held) (k .held))
 
-      pub listed-day : {old new : List ℕ} {n : ℕ} → Written (listingOf s) old new n → Listed refusal s old new (record { number = NumberOf (d .held); line = 0; length = n })
+      pub listed-day : {old new : List ℕ} {n : ℕ} → Written (listingOf p) old new n → Listed refusal (listingOf p) old new (record { number = NumberOf (d .held); line = 0; length = n })
       listed-day {old} {new} {n} w =
-          subst (λ x. Listed x s old new (record { number = NumberOf (d .held); line = 0; length = n })) (sym by-day) (listed-loud outcome s (number-loud (d .held)) w)
+          subst (λ f. Listed f (listingOf p) old new (record { number = NumberOf (d .held); line = 0; length = n })) by-day
+          (listed-text outcome (writes-day (d .held)) (listingOf p) w)
 
-      pub placed-day : (old new : List ℕ) → new ≡ over (gridFor s) old → new ≡ gridAfter refusal s old
-      placed-day old new w = subst (λ x. new ≡ gridAfter x s old) (sym by-day) (grid-loud outcome s (number-loud (d .held)) old new w)
+      pub placed-day : (old new : List ℕ) → new ≡ over (gridFor p) old → new ≡ gridAfter refusal (gridFor p) old
+      placed-day old new w = subst (λ f. new ≡ gridAfter f (gridFor p) old) by-day (placed-bytes outcome (writes-day (d .held)) (gridFor p) old new w)
 
       pub unlisted-day : record { number = NumberOf (d .held); line = 0; length = 0 } ≡ unlistedAnswer refusal
-      unlisted-day = unlisted refusal outcome by-day
+      unlisted-day = unlisted outcome ∙ ap unlistedAnswer by-day

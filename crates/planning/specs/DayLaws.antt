@@ -1,166 +1,207 @@
--- The day of a sheet whose numbers are in range: what its rations ask, what the method settles and which placing is taken, as the layers below prove it.
--- Assumes nothing.
+-- The day of a problem (`DayOf`): where it is that of a whole day, and what may be written for it. Assumes nothing.
 use mathlib.Core.Path.{_≡_, refl, sym, ap, _∙_, subst}
-use mathlib.Core.Bool.{Bool, true, false, _&&_}
-use mathlib.Core.List.{[]}
-use Prim.Native.Nat.{ℕ, suc, _≤_, _<_}
+use mathlib.Core.Bool.{Bool, true, false}
+use mathlib.Core.List.{List, [], map}
+use Prim.Native.Nat.{ℕ, _*_, _≤_, _<_}
 use native.Mathlib.Omega.{arith}
-use lib.ListN.{length, getD, length-map, length-replicate}
-use lib.Dec.{leb, ltb, eqb}
-use borrow.Author.Tests.{eq-eqb, eqb-true, leb-true, lt-leb, ltb-true, ltb-false}
-use Rattle.common.specs.Lists.{count}
-use Rattle.common.specs.Tests.{and-true}
-use Rattle.sheet.specs.Sheet.{Job, Sheet}
-use Rattle.sheet.specs.RangeLaws.{ValuesInRange, meals-follow}
-use Rattle.placing.specs.Slots.{Slots, has}
-use Rattle.placing.specs.Schedules.{Schedule, Sound, volumeOf, load}
-use Rattle.placing.specs.Demands.{demandsOf, noLow, fullHigh}
-use Rattle.placing.specs.AsFunctions.{Rows}
-use Rattle.placing.specs.FeasibleLaws.{feasible-sound, sound-feasible, sound-looser}
-use Rattle.placing.specs.DemandLaws.{noJob, length-demandsOf, windowOf-demandsOf, windows-demandsOf}
-use Rattle.placing.specs.WindowLaws.{has-window}
-use Rattle.placing.specs.Tabulate.{getD-map-below, has-below}
-use Rattle.stretches.specs.Method.{dayBounds, FeasibleDay, settleAll, loads}
-use Rattle.stretches.specs.Keeping.{StretchesStop}
-use Rattle.stretches.specs.FeedingLaws.{chosen-sound}
-use Rattle.stretches.specs.Theorems.{day-possible, day-high, length-loads, low-is-high, settled-loads, loads-between, loads-feasible, stretches-stop}
-use Rattle.planning.specs.Planning.{canBePlanned, countsOf, feedingsOf}
-use Rattle.planning.specs.ReadListing.{tanks, isOf}
-use Rattle.planning.specs.FeedLineLaws.{OwnLines}
+use lib.Dec.{eqb}
+use lib.ListN.{length, getD, take, replicate}
+use lib.Pow.{pow-mono}
+use lib.Seq.{ext-getD, getD-take, length-take-le}
+use borrow.Author.Tests.{eq-eqb, ne-eqb, not-true, not-false}
+use Rattle.sheet.specs.declared.Reading.{Reading}
+use Rattle.checks.specs.Limits.{maxSlots, maxRations}
+use Rattle.line.specs.Layout.{fields}
+use Rattle.checks.specs.Sheet.{Sheet, numbersOf}
+use Rattle.sheet.specs.Calls.{accepted}
+use Rattle.common.specs.Buffers.{over}
+use Rattle.checks.specs.NumbersLaws.{length-numbersOf}
+use Rattle.common.specs.BufferLaws.{length-padded}
+use Rattle.checks.specs.declared.Refusal.{Refusal}
+use Rattle.checks.specs.RangeLaws.{ValuesInRange}
+use Rattle.sheet.specs.OwnChecks.{ReadFrom}
+use Rattle.sheet.specs.OwnCheckLaws.{read-is, read-values}
+use Rattle.theory.specs.SumsOver.{one}
+use Rattle.schedules.specs.Slots.{has}
+use Rattle.schedules.specs.Shortfall.{forced, capacity}
+use Rattle.schedules.specs.Demands.{noLow, fullHigh}
+use Rattle.placing.specs.Rations.{demandsFrom}
+use Rattle.schedules.specs.DemandLaws.{length-demandsOf}
+use Rattle.placing.specs.ReadLaws.{SheetRead, sheet-read}
+use Rattle.feedings.specs.CellChoice.{ScheduleWords}
+use Rattle.feedings.specs.ScheduleWordLaws.{words-load}
+use Rattle.stretches.specs.declared.Day.{Day}
+use Rattle.stretches.specs.Days.{DayPlanned}
+use Rattle.plan_lines.specs.Sizes.{planBytes, gridBytes}
+use Rattle.plan_lines.specs.Text.{planText, heldText, gridOf}
+use Rattle.plan_lines.specs.Inputs.{placingOf, setOf}
+use Rattle.listing.specs.Opening.{Written}
+use Rattle.listing.specs.PlanSteps.{CanPutPlan}
+use Rattle.listing.specs.PlanSteps as Put
+use Rattle.listing.specs.HeldSteps.{CanPutHeld}
+use Rattle.listing.specs.GridSteps.{CanPutGrid}
+use Rattle.planning.specs.Problem.{Problem, alone, left, room, ProblemInRange, canBePlanned, settledCounts, feedingsOf, countsOf, shownSet, planWith, listingOf, gridFor}
+use Rattle.planning.specs.Contracts.{DayOf}
+use Rattle.planning.specs.InputLaws.{Holds, placingOf-holds, planText-holds, setOf-tab}
+use Rattle.planning.specs.PlacingLaws.{placing-rows, counts-le, length-placing}
+use Rattle.planning.specs.AloneLaws.{left-alone, room-alone, alone-in-range}
+use Rattle.planning.specs.ProblemLaws.{listing-plan, listing-held, grid-plan, grid-held, length-left, feedings-sound, feedings-whole, counts-whole, length-countsOf}
 
--- Held or not -------------------------------------------------------------------------
+-- the day that was planned of what is left of a whole day, in the room left
+pub day-of-whole : (p : Problem) → ProblemInRange p → p .cut ≡ 0 → {r : Reading} → r ≡ accepted (p .sheet) → {d : Day}
+    → DayPlanned d (p .sheet .slots) (p .sheet .blowers) (left p) (room p) → DayOf p r d
+unfolding canBePlanned noLow shownSet settledCounts
+day-of-whole p g z e {d} h =
+    record {
+      in-range = g;
+      read = e;
+      held = h .held;
+      counts-long = h .counts-long;
+      marks-long = h .marks-long;
+      counted = λ f t l. h .counted f t l ∙ counts f t;
+      fed = λ f. fed f;
+      counts-past = h .counts-past;
+      shown = h .shown;
+      forced-in = h .forced-in;
+      high-over = h .high-over;
+      no-counts = h .no-counts;
+      no-fed = h .no-fed;
+    }
+  where
+    can : d .held ≡ false → canBePlanned p ≡ true
+    can f = not-false (canBePlanned p) (sym (h .held) ∙ f)
 
-module _ (s : Sheet) where
-  length-noLow : length (noLow s) ≡ s .slots
-  unfolding noLow
-  length-noLow = length-replicate (s .slots) 0
+    counts : d .held ≡ false → (t : ℕ) → getD (settledCounts p) t 0 ≡ getD (countsOf p) t 0
+    counts f t = ap (λ xs. getD xs t 0) (sym (counts-whole p g (can f) z))
 
-  pub length-fullHigh : length (fullHigh s) ≡ s .slots
-  unfolding fullHigh
-  length-fullHigh = length-replicate (s .slots) (s .blowers)
+    fed : d .held ≡ false → ScheduleWords (length (p .sheet .jobs)) (p .sheet .slots) (feedingsOf p) (d .fed)
+    fed f =
+        subst (λ n. ScheduleWords n (p .sheet .slots) (feedingsOf p) (d .fed)) (length-left p g ∙ length-demandsOf (p .sheet))
+        (subst (λ q. ScheduleWords (length (left p)) (p .sheet .slots) q (d .fed)) (sym (feedings-whole p g (can f) z)) (h .fed f))
 
-  pub planned-sound : canBePlanned s ≡ true → (p : Schedule) × Sound (s .slots) (demandsOf s) (noLow s) (fullHigh s) p
-  unfolding canBePlanned
-  planned-sound e = feasible-sound (windows-demandsOf s) length-noLow length-fullHigh e
+module _ {p : Problem} {r : Reading} {d : Day} (h : DayOf p r d) where
+  abbrev s : Sheet
+  s = p .sheet
 
-  pub sound-planned : (p : Schedule) → Sound (s .slots) (demandsOf s) (noLow s) (fullHigh s) p → canBePlanned s ≡ true
-  unfolding canBePlanned
-  sound-planned p h = sound-feasible (windows-demandsOf s) length-noLow length-fullHigh h
+  values : ValuesInRange 0 s (length (s .jobs)) true
+  values = h .in-range .values
 
--- A day that is planned -----------------------------------------------------------------
+  pub day-slots : r .slots ≤ maxSlots
+  unfolding accepted
+  day-slots = subst (λ x. x .slots ≤ maxSlots) (sym (h .read)) (values .head .slots .le)
 
-module _ (s : Sheet) (can : canBePlanned s ≡ true) where
-  pub possible : FeasibleDay (s .slots) (demandsOf s) (dayBounds (s .slots) (s .blowers))
-  unfolding canBePlanned noLow fullHigh
-  possible = day-possible (s .slots) (s .blowers) (demandsOf s) can
+  module _ (e : d .held ≡ false) where
+    pub can : canBePlanned p ≡ true
+    can = not-false (canBePlanned p) (sym (h .held) ∙ e)
 
-  pub high : (t : ℕ) → t < s .slots → getD (dayBounds (s .slots) (s .blowers) .high) t 0 ≤ s .blowers
-  high = day-high (s .slots) (s .blowers)
+    words : ScheduleWords (length (s .jobs)) (s .slots) (feedingsOf p) (d .fed)
+    words = h .fed e
 
-  pub length-countsOf : length (countsOf s) ≡ s .slots
-  unfolding countsOf
-  length-countsOf = length-loads (windows-demandsOf s) possible (s .blowers)
+    holds : Holds (s .slots) (length (s .jobs)) (d .fed) (feedingsOf p)
+    holds =
+        record {
+          rations = length-placing s (feedingsOf p) (feedings-sound p (h .in-range) can);
+          rows = placing-rows s (feedingsOf p) (feedings-sound p (h .in-range) can);
+          fed = λ j t m l. bit-has (has (getD (feedingsOf p) j []) t) _ (words .rows t l .bits j m);
+          few = λ t l. words .rows t l .few;
+        }
+      where
+        bit-has : (x : Bool) (w : ℕ) → w ≡ one x → x ≡ eqb w 1
+        bit-has true w f = sym (eq-eqb w 1 f)
+        bit-has false w f = sym (ne-eqb w 1 (λ z. omega (arith, f, z)))
 
-  -- at the end low equals high in each slot
-  pub settled-low-is-high : settleAll (s .slots) (demandsOf s) (s .blowers) (dayBounds (s .slots) (s .blowers)) .low
-      ≡ settleAll (s .slots) (demandsOf s) (s .blowers) (dayBounds (s .slots) (s .blowers)) .high
-  settled-low-is-high = low-is-high (windows-demandsOf s) possible (s .blowers) high
+    pub counts-are : take (s .slots) (d .counts) ≡ countsOf p
+    counts-are =
+        ext-getD 0 (take (s .slots) (d .counts)) (countsOf p) (size ∙ sym (length-countsOf p (h .in-range) can))
+        (λ t l. let m : t < s .slots = omega (arith, size) in getD-take (s .slots) (d .counts) t 0 m ∙ h .counted e t m)
+      where
+        size : length (take (s .slots) (d .counts)) ≡ s .slots
+        size = length-take-le (s .slots) (d .counts) (omega (arith, h .counts-long, values .head .slots .le))
 
-  counts-between : (t : ℕ) → t < s .slots
-      → (getD (noLow s) t 0 ≤ getD (countsOf s) t 0) × (getD (countsOf s) t 0 ≤ getD (fullHigh s) t 0)
-  unfolding countsOf noLow fullHigh
-  counts-between = loads-between (windows-demandsOf s) possible (s .blowers) high
+    -- of a plan
+    pub plan-can : (out : List ℕ) → planBytes ≤ length out → CanPutPlan out (r .slots) (r .blowers) (r .wake) (d .counts) (r .numbers) (d .fed)
+    unfolding accepted
+    plan-can out room =
+        subst (λ x. CanPutPlan out (x .slots) (x .blowers) (x .wake) (d .counts) (x .numbers) (d .fed)) (sym (h .read))
+        (record {
+          counted = record { long = h .counts-long; day = values .head .slots .le };
+          few = values .head .blowers .le;
+          wake-most = values .head .wake;
+          tanks = length-padded (fields * maxRations) (numbersOf (s .jobs)) (omega (arith, length-numbersOf (s .jobs), values .head .rations));
+          long = words .long;
+          words-fit = λ t l. omega (arith, holds .few t l, pow-mono {i = length (s .jobs)} {j = maxRations} (values .head .rations));
+          loads = λ t l.
+              omega (
+                arith,
+                words-load words (holds .rations) (holds .rows) t l,
+                counts-le s (feedingsOf p) (feedings-sound p (h .in-range) can) t l,
+                values .head .blowers .le,
+              );
+          room = room;
+        })
 
-  pub countsOf-le : (t : ℕ) → t < s .slots → getD (countsOf s) t 0 ≤ s .blowers
-  unfolding fullHigh
-  countsOf-le t l = omega (arith, counts-between t l, high t l)
+    plan-text : planText (Put.planOf (r .slots) (r .blowers) (r .wake) (d .counts) (r .numbers) (d .fed)) ≡ planText (planWith s (feedingsOf p))
+    unfolding accepted planWith countsOf
+    plan-text =
+        ap (λ x. planText (Put.planOf (x .slots) (x .blowers) (x .wake) (d .counts) (x .numbers) (d .fed))) (h .read)
+        ∙ planText-holds (s .slots) (s .blowers) (s .wake) (d .counts) (d .fed) (s .jobs) (feedingsOf p) (omega (arith, words .long, values .head .slots .le))
+        (values .head .rations) holds
+        ∙ ap (λ x. planText (record { slots = s .slots; blowers = s .blowers; wake = s .wake; tanks = map (λ j. j .tank) (s .jobs); counts = x; placing = feedingsOf p })) counts-are
 
-  feedings-with-counts : Sound (s .slots) (demandsOf s) (countsOf s) (countsOf s) (feedingsOf s)
-  unfolding feedingsOf countsOf
-  feedings-with-counts =
-      chosen-sound (windows-demandsOf s) (countsOf s) length-countsOf (loads-feasible (windows-demandsOf s) possible (s .blowers) high)
+    pub plan-written : {old new : List ℕ} {n : ℕ} → Written (planText (Put.planOf (r .slots) (r .blowers) (r .wake) (d .counts) (r .numbers) (d .fed))) old new n
+        → Written (listingOf p) old new n
+    plan-written {old} {new} {n} w = subst (λ x. Written x old new n) (plan-text ∙ sym (listing-plan p can)) w
 
-  -- the feedings are a sound placing, and the counts are its loads
-  pub feedings-sound : Sound (s .slots) (demandsOf s) (noLow s) (fullHigh s) (feedingsOf s)
-  feedings-sound = sound-looser (windows-demandsOf s) (λ t l. counts-between t l .0) (λ t l. counts-between t l .1) feedings-with-counts
+    -- of a placing
+    pub grid-can : (out : List ℕ) → gridBytes ≤ length out → CanPutGrid out (r .slots) (r .rations) (d .fed)
+    unfolding accepted
+    grid-can out room =
+        subst (λ x. CanPutGrid out (x .slots) (x .rations) (d .fed)) (sym (h .read))
+        (record { day = values .head .slots .le; long = words .long; few = values .head .rations; room = room })
 
-  pub feedings-load : load (s .slots) (feedingsOf s) ≡ countsOf s
-  unfolding countsOf loads
-  feedings-load =
-      settled-loads (windows-demandsOf s) possible (s .blowers) high (feedingsOf s)
-      (subst (λ h. Sound (s .slots) (demandsOf s) (countsOf s) h (feedingsOf s)) settled-low-is-high feedings-with-counts)
+    pub grid-written : (old new : List ℕ) → new ≡ over (gridOf (placingOf (r .slots) (r .rations) (d .fed))) old → new ≡ over (gridFor p) old
+    unfolding accepted
+    grid-written old new w =
+        w ∙ ap (λ x. over (gridOf (placingOf (x .slots) (x .rations) (d .fed))) old) (h .read)
+        ∙ ap (λ q. over (gridOf q) old) (placingOf-holds (s .slots) (length (s .jobs)) (d .fed) (feedingsOf p) (omega (arith, words .long, values .head .slots .le)) holds)
+        ∙ ap (λ x. over x old) (sym (grid-plan p can))
 
-  pub feedings-rows : Rows (s .slots) (feedingsOf s)
-  feedings-rows j l =
-      let k : j < length (demandsOf s) = omega (arith, feedings-sound .for-each) in
-      feedings-sound .served j k .same-day ∙ windows-demandsOf s .all-day j k
+  module _ (e : d .held ≡ true) where
+    cannot : canBePlanned p ≡ false
+    cannot = not-true (canBePlanned p) (sym (h .held) ∙ e)
 
-  pub length-feedings : length (feedingsOf s) ≡ length (s .jobs)
-  length-feedings = feedings-sound .for-each ∙ length-demandsOf s
+    shown : setOf (s .slots) (d .marks) ≡ shownSet p
+    shown = setOf-tab (s .slots) (d .marks) (omega (arith, h .marks-long, values .head .slots .le)) ∙ sym (h .shown e)
 
-  pub tanks-feedings : length (tanks s) ≡ length (feedingsOf s)
-  tanks-feedings = length-map (s .jobs) (λ j. j .tank) ∙ sym length-feedings
+    pub held-can : (out : List ℕ) → planBytes ≤ length out → CanPutHeld out (r .slots) (d .marks)
+    unfolding accepted
+    held-can out room =
+        subst (λ x. CanPutHeld out (x .slots) (d .marks)) (sym (h .read)) (record { day = values .head .slots .le; long = h .marks-long; room = room })
 
-  -- a feeding's line is a line of its own meal alone, because the windows of one tank's meals have no slot in common
-  pub own-lines : ValuesInRange s (length (s .jobs)) true → OwnLines (s .jobs) (tanks s) (feedingsOf s)
-  own-lines v = record { own = own; others = others }
-    where
-      job : ℕ → Job
-      job i = getD (s .jobs) i noJob
+    pub held-written : {old new : List ℕ} {n : ℕ} → Written (heldText (setOf (r .slots) (d .marks)) (d .forced) (d .capacity)) old new n → Written (listingOf p) old new n
+    unfolding accepted
+    held-written {old} {new} {n} w =
+        subst (λ y. Written y old new n)
+        (ap (λ y. heldText (setOf (y .slots) (d .marks)) (d .forced) (d .capacity)) (h .read)
+        ∙ ap (λ q. heldText q (d .forced) (d .capacity)) shown
+        ∙ ap (λ y. heldText (shownSet p) y (d .capacity)) (h .forced-in e)
+        ∙ ap (heldText (shownSet p) (forced (left p) (shownSet p))) (h .high-over e)
+        ∙ sym (listing-held p cannot)) w
 
-      in-jobs : (i : ℕ) → i < length (feedingsOf s) → i < length (s .jobs)
-      in-jobs i l = omega (arith, length-feedings)
+    pub held-grid : (old new : List ℕ) → new ≡ over (gridOf []) old → new ≡ over (gridFor p) old
+    held-grid old new w = w ∙ ap (λ x. over x old) (sym (grid-held p cannot))
 
-      tank-at : (i : ℕ) → i < length (feedingsOf s) → getD (tanks s) i 0 ≡ job i .tank
-      tank-at i l = getD-map-below (λ (j : Job). j .tank) (s .jobs) i 0 noJob (in-jobs i l)
+-- The day of a sheet that was read, planned alone ------------------------------------------
 
-      -- what is fed is fed in the window
-      in-window : (i t : ℕ) → i < length (feedingsOf s) → has (getD (feedingsOf s) i []) t ≡ true → (leb (job i .release) (suc t) && leb (suc t) (job i .deadline)) ≡ true
-      in-window i t l h =
-          let k = in-jobs i l in
-          let w = sym (ap (λ (q : Slots). has q t) (windowOf-demandsOf s i k)) ∙ feedings-sound .served i (omega (arith, length-demandsOf s)) .in-window t h in
-          sym (has-window (s .slots) (job i .release) (job i .deadline) t (omega (arith, has-below (getD (feedingsOf s) i []) t h, feedings-rows i l))) ∙ w
-
-      own : (i t : ℕ) → i < length (feedingsOf s) → has (getD (feedingsOf s) i []) t ≡ true → isOf (job i) (suc t) (getD (tanks s) i 0) ≡ true
-      own i t l h = rw (eq-eqb (getD (tanks s) i 0) (job i .tank) (tank-at i l)) (in-window i t l h)
-
-      apart : (i o t : ℕ) → i < length (feedingsOf s) → o < length (feedingsOf s) → (o ≡ i → ⊥) → job o .tank ≡ job i .tank
-          → (leb (job o .release) (suc t) && leb (suc t) (job o .deadline)) ≡ true → (leb (job i .release) (suc t) && leb (suc t) (job i .deadline)) ≡ false
-      apart i o t l m n e h = go (ltb o i) refl
-        where
-          w : (leb (job o .release) (suc t) ≡ true) × (leb (suc t) (job o .deadline) ≡ true)
-          w = and-true (leb (job o .release) (suc t)) (leb (suc t) (job o .deadline)) h
-
-          after : job o .release ≤ suc t
-          after = leb-true (job o .release) (suc t) (w .0)
-
-          before : suc t ≤ job o .deadline
-          before = leb-true (suc t) (job o .deadline) (w .1)
-
-          never : (x : Bool) → (x && false) ≡ false
-          never true = refl
-          never false = refl
-
-          go : (x : Bool) → ltb o i ≡ x → (leb (job i .release) (suc t) && leb (suc t) (job i .deadline)) ≡ false
-          go true z =
-              let f = meals-follow (s .slots) 0 0 (s .jobs) (v .jobs) o i (ltb-true o i z) (in-jobs i l) noJob e in
-              rw (lt-leb (job i .release) (suc t) (omega (arith, f, before)))
-          go false z =
-              let f = meals-follow (s .slots) 0 0 (s .jobs) (v .jobs) i o (omega (arith, ltb-false o i z, n)) (in-jobs o m) noJob (sym e) in
-              rw (lt-leb (suc t) (job i .deadline) (omega (arith, f, after))) (never (leb (job i .release) (suc t)))
-
-      others : (i o t : ℕ) → i < length (feedingsOf s) → o < length (feedingsOf s) → (o ≡ i → ⊥) → has (getD (feedingsOf s) o []) t ≡ true
-          → isOf (job i) (suc t) (getD (tanks s) o 0) ≡ false
-      others i o t l m n h = go (eqb (getD (tanks s) o 0) (job i .tank)) refl
-        where
-          go : (x : Bool) → eqb (getD (tanks s) o 0) (job i .tank) ≡ x → (x && (leb (job i .release) (suc t) && leb (suc t) (job i .deadline))) ≡ false
-          go true z = apart i o t l m n (sym (tank-at o m) ∙ eqb-true (getD (tanks s) o 0) (job i .tank) z) (in-window o t m h)
-          go false z = refl
-
-  pub feedings-volume : (i : ℕ) → i < length (s .jobs) → count (getD (feedingsOf s) i []) ≡ volumeOf (demandsOf s) i
-  feedings-volume i l = feedings-sound .served i (omega (arith, length-demandsOf s)) .exactly
-
-  -- no stretch that stops could have gone on
-  pub counts-stop : StretchesStop (s .slots) (s .blowers) (demandsOf s) (noLow s) (fullHigh s) (countsOf s)
-  unfolding countsOf noLow fullHigh
-  counts-stop = stretches-stop (windows-demandsOf s) possible (s .blowers)
+pub day-alone : {own : List Refusal} {s : Sheet} {r : Reading} → ReadFrom own s r → r .number ≡ 0 → {d : Day}
+    → DayPlanned d (r .slots) (r .blowers) (demandsFrom (r .slots) (r .rations) (r .numbers)) (replicate (r .slots) (r .blowers)) → DayOf (alone s) r d
+unfolding fullHigh
+day-alone {own} {s} {r} h z {d} p =
+    day-of-whole (alone s) (alone-in-range s (read-values h z)) refl (read-is h z)
+    (subst (λ ds. DayPlanned d (s .slots) (s .blowers) ds (room (alone s))) (a .demands ∙ sym (left-alone s))
+    (subst (λ high. DayPlanned d (s .slots) (s .blowers) (demandsFrom (r .slots) (r .rations) (r .numbers)) high) (sym (room-alone s))
+    (subst (λ m. DayPlanned d (s .slots) m (demandsFrom (r .slots) (r .rations) (r .numbers)) (replicate (s .slots) m)) (a .blowers)
+    (subst (λ n. DayPlanned d n (r .blowers) (demandsFrom (r .slots) (r .rations) (r .numbers)) (replicate n (r .blowers))) (a .slots) p))))
+  where
+    a : SheetRead s r
+    a = sheet-read h z

@@ -11,18 +11,18 @@ use lib.Seq.{take-all, ext-getD}
 use borrow.Author.Tests.{eq-eqb, ne-eqb, eqb-true, eqb-false}
 use Rattle.common.specs.Lists.{range, count, keep, flatMap}
 use Rattle.common.specs.ListLaws.{range-snoc, flatMap-append}
-use Rattle.sheet.specs.Sheet.{Job}
-use Rattle.placing.specs.Slots.{Slots, has}
-use Rattle.placing.specs.Schedules.{Schedule, load}
-use Rattle.placing.specs.Tabulate.{getD-map-below}
-use Rattle.placing.specs.AsFunctions.{Rows}
-use Rattle.placing.specs.ListLaws.{in-flatMap, in-keep}
-use Rattle.placing.specs.DemandLaws.{noJob}
-use Rattle.listing.specs.Lines.{Line, partAt, fedIn, feedLine, slotLines, feedLines, membersFrom}
+use Rattle.checks.specs.Sheet.{Job}
+use Rattle.schedules.specs.Slots.{Slots, has}
+use Rattle.schedules.specs.Schedules.{Schedule, load}
+use Rattle.schedules.specs.Tabulate.{getD-map-below}
+use Rattle.schedules.specs.AsFunctions.{Rows}
+use Rattle.schedules.specs.ListLaws.{in-flatMap, in-keep}
+use Rattle.schedules.specs.DemandLaws.{noJob}
+use Rattle.plan_lines.specs.Lines.{Line, partAt, fedIn, feedLine, slotLines, feedLines, membersFrom}
 use Rattle.planning.specs.ReadListing.{slotSet, inSlot, ofTank, isOf, ofMeal, placingOn}
 use Rattle.planning.specs.ListLaws.{in-range, flatMap-range-cong, flatMap-range-one, keep-all, keep-none, keep-flatMap, map-flatMap, in-zipWith, at-zipWith}
-use Rattle.listing.specs.FeedLaws.{count-take, count-take-le}
-use Rattle.listing.specs.LengthLaws.{length-flatMap-range}
+use Rattle.plan_lines.specs.FeedLaws.{count-take, count-take-le}
+use Rattle.plan_lines.specs.LengthLaws.{length-flatMap-range}
 use Rattle.planning.specs.SlotSetLaws.{slotSet-members, membersFrom-slots}
 use Rattle.planning.specs.SlotLineLaws.{rationRows, linesFrom, blowers-from, length-linesFrom, of-slot, length-fedIn, lines-at-most-one, lines-one}
 

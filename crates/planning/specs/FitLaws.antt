@@ -1,40 +1,39 @@
 -- Every number of a listing fits its field, and every listing fits the plan buffer. Assumes nothing.
-use mathlib.Core.Path.{_≡_, sym, ap, subst}
+use mathlib.Core.Path.{_≡_, refl, sym, ap, subst}
 use mathlib.Core.Logic.{_⊎_, inl, inr}
 use mathlib.Core.Bool.{Bool, true, false, _||_, cond}
 use mathlib.Core.List.{List, [], _∷_, _++_, List·Memᴰ, List·Memᴰ·not-nil, List·Memᴰ·cases-cons, List·Memᴰ·append-cases, Memᴰ·of-map}
-use Prim.Native.Nat.{ℕ, zero, suc, _+_, _*_, _^_, _≤_, _<_}
-use native.Mathlib.Nat.{mul-le-mul, mul-le-mul-right, suc-inj, suc-mul}
+use Prim.Native.Nat.{ℕ, suc, _+_, _*_, _^_, _≤_, _<_}
+use native.Mathlib.Nat.{mul-le-mul, suc-mul}
 use native.Mathlib.Omega.{arith}
 use lib.Dec.{leb}
-use lib.ListN.{length, getD, replicate, length-append, length-map}
-use Rattle.common.specs.Lists.{sum, count, zipWith}
+use lib.ListN.{length, getD, length-append, length-map}
+use Rattle.common.specs.Lists.{count}
 use Rattle.common.specs.ListLaws.{count-le-length}
-use Rattle.sheet.specs.Limits.{width, maxSlots, maxBlowers, maxRations, maxTank}
-use Rattle.sheet.specs.Sheet.{Job, Sheet}
-use Rattle.sheet.specs.RangeLaws.{JobsInRange, ValuesInRange}
-use Rattle.placing.specs.Slots.{Slots, sumOver}
-use Rattle.placing.specs.Schedules.{Demand, volumeOf}
-use Rattle.placing.specs.Shortfall.{forced, capacity}
-use Rattle.placing.specs.Demands.{demandsOf, fullHigh}
-use Rattle.placing.specs.DemandLaws.{demandsOf-inRange}
-use Rattle.stretches.specs.Intervals.{Interval, size}
+use Rattle.line.specs.Layout.{width}
+use Rattle.checks.specs.Limits.{maxSlots, maxBlowers, maxRations, maxTank}
+use Rattle.checks.specs.Refusals.{noPlacing}
+use Rattle.checks.specs.Sheet.{Job, Sheet}
+use Rattle.checks.specs.RangeLaws.{JobsInRange, ValuesInRange}
+use Rattle.schedules.specs.Slots.{Slots, has, sumOver}
+use Rattle.schedules.specs.Schedules.{Schedule, load}
+use Rattle.method.specs.Intervals.{Interval, size}
 use Rattle.energy.specs.Energy.{atEnd, state, starts, energy}
 use Rattle.energy.specs.EnergyLaws.{starts-most, energy-most}
 use Rattle.bill.specs.Bill.{charge}
 use Rattle.bill.specs.Theorems.{amount-fits}
-use Rattle.listing.specs.Sizes.{planBytes}
-use Rattle.listing.specs.Lines.{Line, line, stretchLine, stretchLines, feedLine, feedLines, billLine, planLines, membersFrom, memberLines, heldLines}
-use Rattle.listing.specs.Text.{writeLines, planWord, heldWord, planText, heldText}
-use Rattle.planning.specs.Planning.{canBePlanned, countsOf, feedingsOf, planOf}
+use Rattle.plan_lines.specs.Sizes.{planBytes}
+use Rattle.plan_lines.specs.Lines.{Line, line, stretchLine, stretchLines, feedLine, feedLines, billLine, planLines, membersFrom, memberLines, heldLines}
+use Rattle.plan_lines.specs.Text.{writeLines, planWord, heldWord, planText, heldText}
+use Rattle.plan_lines.specs.Putting.{length-writeLines}
+use Rattle.plan_lines.specs.LengthLaws.{length-stretchLines}
+use Rattle.planning.specs.Problem.{SoundPlacing, planWith}
 use Rattle.planning.specs.ReadListing.{tanks}
 use Rattle.planning.specs.ReadLaws.{FitsLine, FitLines}
 use Rattle.planning.specs.SlotSetLaws.{length-membersFrom}
 use Rattle.planning.specs.StretchLineLaws.{in-stretchLines}
-use Rattle.listing.specs.Putting.{length-writeLines}
-use Rattle.listing.specs.LengthLaws.{length-stretchLines}
 use Rattle.planning.specs.FeedLineLaws.{partAt-le, length-feedLines, in-feedLines}
-use Rattle.planning.specs.DayLaws.{length-countsOf, countsOf-le, feedings-load, feedings-rows, tanks-feedings}
+use Rattle.planning.specs.PlacingLaws.{placing-rows, length-counts, counts-le, tanks-placing}
 
 -- Stretch lines -----------------------------------------------------------------------
 
@@ -55,10 +54,10 @@ fit-stretchLines m q counts few day l i =
 
 -- Feed lines --------------------------------------------------------------------------
 
-tank-le : (s : Sheet) → ValuesInRange s (length (s .jobs)) true → (tank : ℕ) → List·Memᴰ tank (tanks s) → tank ≤ maxTank
+tank-le : (s : Sheet) → ValuesInRange 0 s (length (s .jobs)) true → (tank : ℕ) → List·Memᴰ tank (tanks s) → tank ≤ maxTank
 tank-le s v tank i = let r = Memᴰ·of-map (λ (j : Job). j .tank) (s .jobs) i in omega (arith, r .2, go 0 0 (s .jobs) (v .jobs) (r .0) (r .1))
   where
-    go : (before until : ℕ) (js : List Job) → JobsInRange (s .slots) before until js → (j : Job) → List·Memᴰ j js → j .tank ≤ maxTank
+    go : (before until : ℕ) (js : List Job) → JobsInRange 0 (s .slots) before until js → (j : Job) → List·Memᴰ j js → j .tank ≤ maxTank
     go before until [] h j m = absurd (List·Memᴰ·not-nil m)
     go before until (x ∷ js) h j m = step (List·Memᴰ·cases-cons m) (go (x .tank) (x .deadline) js (h .1) j)
       where
@@ -66,14 +65,14 @@ tank-le s v tank i = let r = Memᴰ·of-map (λ (j : Job). j .tank) (s .jobs) i 
         step (inl e) ih = omega (arith, ap (λ (y : Job). y .tank) e, h .0 .tank .le)
         step (inr k) ih = ih k
 
-module _ (s : Sheet) (v : ValuesInRange s (length (s .jobs)) true) (can : canBePlanned s ≡ true) where
-  fit-feedLines : FitLines (feedLines (s .slots) (tanks s) (feedingsOf s))
+module _ (s : Sheet) (v : ValuesInRange 0 s (length (s .jobs)) true) (p : Schedule) (can : SoundPlacing s p) where
+  fit-feedLines : FitLines (feedLines (s .slots) (tanks s) p)
   unfolding feedLine
   fit-feedLines l i =
-      let r = in-feedLines (s .slots) (tanks s) (feedingsOf s) (tanks-feedings s can) (feedings-rows s can) l i in
+      let r = in-feedLines (s .slots) (tanks s) p (tanks-placing s p can) (placing-rows s p can) l i in
       let d : s .slots ≤ maxSlots = v .head .slots .le in
       let m : s .blowers ≤ maxBlowers = v .head .blowers .le in
-      let k : r .1 ≤ s .blowers = omega (arith, r .5, ap (λ c. getD c (r .0) 0) (feedings-load s can), countsOf-le s can (r .0) (r .3)) in
+      let k : r .1 ≤ s .blowers = omega (arith, r .5, counts-le s p can (r .0) (r .3)) in
       let o : r .0 < s .slots = r .3 in
       subst FitsLine (sym (r .7))
       (record {
@@ -85,58 +84,58 @@ module _ (s : Sheet) (v : ValuesInRange s (length (s .jobs)) true) (can : canBeP
 
   -- Lengths ---------------------------------------------------------------------------
 
-  stretches-most : length (stretchLines (s .blowers) (s .wake) (countsOf s)) ≤ maxSlots * maxBlowers
+  stretches-most : length (stretchLines (s .blowers) (s .wake) (load (s .slots) p)) ≤ maxSlots * maxBlowers
   stretches-most =
       omega (
         arith,
-        length-stretchLines (s .blowers) (s .wake) (countsOf s),
-        length-countsOf s can,
-        mul-le-mul (v .head .blowers .le) (day (length-countsOf s can)),
+        length-stretchLines (s .blowers) (s .wake) (load (s .slots) p),
+        length-counts s p can,
+        mul-le-mul (v .head .blowers .le) (day (length-counts s p can)),
       )
     where
-      day : length (countsOf s) ≡ s .slots → length (countsOf s) ≤ maxSlots
+      day : length (load (s .slots) p) ≡ s .slots → length (load (s .slots) p) ≤ maxSlots
       day e = omega (arith, v .head .slots .le)
 
-  feedings-most : length (feedLines (s .slots) (tanks s) (feedingsOf s)) ≤ maxSlots * maxBlowers
+  feedings-most : length (feedLines (s .slots) (tanks s) p) ≤ maxSlots * maxBlowers
   feedings-most =
       omega (
         arith,
-        length-feedLines (s .slots) (tanks s) (feedingsOf s) (tanks-feedings s can) (feedings-rows s can) (s .blowers) (λ t l. omega (arith, ap (λ c. getD c t 0) (feedings-load s can), countsOf-le s can t l)),
+        length-feedLines (s .slots) (tanks s) p (tanks-placing s p can) (placing-rows s p can) (s .blowers) (λ t l. omega (arith, counts-le s p can t l)),
         mul-le-mul (v .head .slots .le) (v .head .blowers .le),
       )
 
   -- A plan ----------------------------------------------------------------------------
 
-  day-le : length (countsOf s) ≤ maxSlots
-  day-le = omega (arith, length-countsOf s can, v .head .slots .le)
+  day-le : length (load (s .slots) p) ≤ maxSlots
+  day-le = omega (arith, length-counts s p can, v .head .slots .le)
 
-  pub energy-fits : energy (s .blowers) (s .wake) (countsOf s) < 10 ^ width
-  energy-fits = omega (arith, energy-most (s .blowers) (s .wake) (countsOf s) (v .head .blowers .le) (v .head .wake) day-le)
+  pub energy-fits : energy (s .blowers) (s .wake) (load (s .slots) p) < 10 ^ width
+  energy-fits = omega (arith, energy-most (s .blowers) (s .wake) (load (s .slots) p) (v .head .blowers .le) (v .head .wake) day-le)
 
-  pub starts-fit : starts (s .blowers) (s .wake) (countsOf s) < 10 ^ width
-  starts-fit = omega (arith, starts-most (s .blowers) (s .wake) (countsOf s) (v .head .blowers .le) (v .head .wake) day-le)
+  pub starts-fit : starts (s .blowers) (s .wake) (load (s .slots) p) < 10 ^ width
+  starts-fit = omega (arith, starts-most (s .blowers) (s .wake) (load (s .slots) p) (v .head .blowers .le) (v .head .wake) day-le)
 
-  bill-fits : FitsLine (billLine (charge (s .blowers) (s .wake) (countsOf s)))
+  bill-fits : FitsLine (billLine (charge (s .blowers) (s .wake) (load (s .slots) p)))
   unfolding billLine
   bill-fits =
-      let h = amount-fits (s .blowers) (s .wake) (countsOf s) (v .head .blowers .le) (v .head .wake) day-le in
+      let h = amount-fits (s .blowers) (s .wake) (load (s .slots) p) (v .head .blowers .le) (v .head .wake) day-le in
       record { a = omega (arith, h .0); b = omega (arith, h .1); c = omega arith; d = omega arith }
 
-  pub fit-planLines : FitLines (planLines (planOf s))
-  unfolding planLines planOf
+  pub fit-planLines : FitLines (planLines (planWith s p))
+  unfolding planLines planWith
   fit-planLines l i = go (List·Memᴰ·cases-cons i)
     where
       stretchLs : List Line
-      stretchLs = stretchLines (s .blowers) (s .wake) (countsOf s)
+      stretchLs = stretchLines (s .blowers) (s .wake) (load (s .slots) p)
 
       feedLs : List Line
-      feedLs = feedLines (s .slots) (tanks s) (feedingsOf s)
+      feedLs = feedLines (s .slots) (tanks s) p
 
       head : Line
-      head = line (energy (s .blowers) (s .wake) (countsOf s)) (starts (s .blowers) (s .wake) (countsOf s)) (length stretchLs) (length feedLs)
+      head = line (energy (s .blowers) (s .wake) (load (s .slots) p)) (starts (s .blowers) (s .wake) (load (s .slots) p)) (length stretchLs) (length feedLs)
 
       bill : Line
-      bill = billLine (charge (s .blowers) (s .wake) (countsOf s))
+      bill = billLine (charge (s .blowers) (s .wake) (load (s .slots) p))
 
       last : (l ≡ bill) ⊎ List·Memᴰ l [] → FitsLine l
       last (inl e) = subst FitsLine (sym e) bill-fits
@@ -147,7 +146,7 @@ module _ (s : Sheet) (v : ValuesInRange s (length (s .jobs)) true) (can : canBeP
       more (inr k) = last (List·Memᴰ·cases-cons k)
 
       rest : List·Memᴰ l stretchLs ⊎ List·Memᴰ l (feedLs ++ (bill ∷ [])) → FitsLine l
-      rest (inl k) = fit-stretchLines (s .blowers) (s .wake) (countsOf s) (v .head .blowers .le) day-le l k
+      rest (inl k) = fit-stretchLines (s .blowers) (s .wake) (load (s .slots) p) (v .head .blowers .le) day-le l k
       rest (inr k) = more (List·Memᴰ·append-cases feedLs k)
 
       go : (l ≡ head) ⊎ List·Memᴰ l (stretchLs ++ (feedLs ++ (bill ∷ []))) → FitsLine l
@@ -156,41 +155,29 @@ module _ (s : Sheet) (v : ValuesInRange s (length (s .jobs)) true) (can : canBeP
           (record { a = energy-fits; b = starts-fit; c = omega (arith, stretches-most); d = omega (arith, feedings-most) })
       go (inr k) = rest (List·Memᴰ·append-cases stretchLs k)
 
-  pub length-planText : length (planText (planOf s)) ≤ planBytes
-  unfolding planText planLines planOf
+  pub length-planText : length (planText (planWith s p)) ≤ planBytes
+  unfolding planText planLines planWith
   length-planText =
       omega (
         arith,
-        length-append planWord (writeLines (planLines (planOf s))),
-        length-writeLines (planLines (planOf s)),
-        length-append (stretchLines (s .blowers) (s .wake) (countsOf s)) (feedLines (s .slots) (tanks s) (feedingsOf s) ++ (billLine (charge (s .blowers) (s .wake) (countsOf s)) ∷ [])),
-        length-append (feedLines (s .slots) (tanks s) (feedingsOf s)) (billLine (charge (s .blowers) (s .wake) (countsOf s)) ∷ []),
+        length-append planWord (writeLines (planLines (planWith s p))),
+        length-writeLines (planLines (planWith s p)),
+        length-append (stretchLines (s .blowers) (s .wake) (load (s .slots) p)) (feedLines (s .slots) (tanks s) p ++ (billLine (charge (s .blowers) (s .wake) (load (s .slots) p)) ∷ [])),
+        length-append (feedLines (s .slots) (tanks s) p) (billLine (charge (s .blowers) (s .wake) (load (s .slots) p)) ∷ []),
         stretches-most,
         feedings-most,
       )
 
--- A held sheet ------------------------------------------------------------------------
+-- A held listing ----------------------------------------------------------------------
 
--- where every slot has the same high, the capacity is that many times the number of slots
-capacity-same : (m : ℕ) (q : Slots) (slots : ℕ) → length q ≡ slots → capacity (replicate slots m) q ≡ count q * m
+-- where every slot of a set has the same bound, the sum over it is that many times the number of its slots
+pub sum-same : (xs : List ℕ) (q : Slots) (m : ℕ) → length q ≤ length xs → ((t : ℕ) → has q t ≡ true → getD xs t 0 ≡ m) → sumOver xs q ≡ count q * m
 unfolding sumOver
-capacity-same m [] slots e = go slots
-  where
-    go : (n : ℕ) → sum (zipWith (λ x b. cond b x 0) (replicate n m) []) ≡ 0 * m
-    go zero = omega arith
-    go (suc n) = omega arith
-capacity-same m (b ∷ q) zero e = absurd (omega arith)
-capacity-same m (true ∷ q) (suc slots) e = omega (arith, capacity-same m q slots (suc-inj e), suc-mul (count q) m)
-capacity-same m (false ∷ q) (suc slots) e = omega (arith, capacity-same m q slots (suc-inj e))
-
-pub capacity-fullHigh : (s : Sheet) (q : Slots) → length q ≡ s .slots → capacity (fullHigh s) q ≡ count q * s .blowers
-unfolding fullHigh
-capacity-fullHigh s q day = capacity-same (s .blowers) q (s .slots) day
-
-forced-le : (c : ℕ) (ds : List Demand) (q : Slots) → ((j : ℕ) → j < length ds → volumeOf ds j ≤ c) → forced ds q ≤ length ds * c
-unfolding forced
-forced-le c [] q h = omega arith
-forced-le c (d ∷ ds) q h = omega (arith, h zero (omega arith), forced-le c ds q (λ j l. h (suc j) (omega arith)), suc-mul (length ds) c)
+sum-same [] [] m l h = omega arith
+sum-same [] (b ∷ q) m l h = absurd (omega arith)
+sum-same (x ∷ xs) [] m l h = omega arith
+sum-same (x ∷ xs) (true ∷ q) m l h = omega (arith, h 0 refl, sum-same xs q m (omega arith) (λ t e. h (suc t) e), suc-mul (count q) m)
+sum-same (x ∷ xs) (false ∷ q) m l h = omega (arith, sum-same xs q m (omega arith) (λ t e. h (suc t) e))
 
 -- each slot listed is from the first to the last
 member-le : (t : ℕ) (q : Slots) (u : ℕ) → List·Memᴰ u (membersFrom t q) → u < t + length q
@@ -207,42 +194,35 @@ member-le t (b ∷ q) u i = go b i (member-le (suc t) q u)
     go true i ih = first (List·Memᴰ·cases-cons i) ih
     go false i ih = omega (arith, ih i)
 
-module _ (s : Sheet) (v : ValuesInRange s (length (s .jobs)) true) (q : Slots) (day : length q ≡ s .slots) where
+fit-memberLines : (t : ℕ) (q : Slots) → t + length q ≤ suc maxSlots → FitLines (memberLines t q)
+unfolding memberLines membersFrom
+fit-memberLines t q l x i =
+    let w = Memᴰ·of-map (λ u. line u 0 0 0) (membersFrom t q) i in
+    let b = member-le t q (w .0) (w .1) in
+    subst FitsLine (w .2) (record { a = omega arith; b = omega arith; c = omega arith; d = omega arith })
+
+-- a set of the day's slots, and two counts that a day can have
+module _ (q : Slots) (day : length q ≤ maxSlots) (f c : ℕ) (forced-most : f ≤ maxRations * maxSlots) (capacity-most : c ≤ maxSlots * maxBlowers) where
   shown-le : count q ≤ maxSlots
-  shown-le = omega (arith, count-le-length q, v .head .slots .le)
+  shown-le = omega (arith, count-le-length q)
 
-  forced-most : forced (demandsOf s) q ≤ maxRations * maxSlots
-  forced-most =
-      let r = demandsOf-inRange s v in
-      omega (arith, forced-le maxSlots (demandsOf s) q (r .small), mul-le-mul-right maxSlots (r .few))
-
-  capacity-most : capacity (fullHigh s) q ≤ maxSlots * maxBlowers
-  capacity-most = omega (arith, capacity-fullHigh s q day, mul-le-mul shown-le (v .head .blowers .le))
-
-  fit-memberLines : (t : ℕ) (r : Slots) → t + length r ≤ suc maxSlots → FitLines (memberLines t r)
-  unfolding memberLines membersFrom
-  fit-memberLines t r l x i =
-      let w = Memᴰ·of-map (λ u. line u 0 0 0) (membersFrom t r) i in
-      let b = member-le t r (w .0) (w .1) in
-      subst FitsLine (w .2) (record { a = omega arith; b = omega arith; c = omega arith; d = omega arith })
-
-  pub fit-heldLines : FitLines (heldLines q (forced (demandsOf s) q) (capacity (fullHigh s) q))
+  pub fit-heldLines : FitLines (heldLines q f c)
   unfolding heldLines
   fit-heldLines l i = go (List·Memᴰ·cases-cons i)
     where
-      go : (l ≡ line 12 (count q) (forced (demandsOf s) q) (capacity (fullHigh s) q)) ⊎ List·Memᴰ l (memberLines 1 q) → FitsLine l
+      go : (l ≡ line noPlacing (count q) f c) ⊎ List·Memᴰ l (memberLines 1 q) → FitsLine l
       go (inl e) =
           subst FitsLine (sym e)
           (record { a = omega arith; b = omega (arith, shown-le); c = omega (arith, forced-most); d = omega (arith, capacity-most) })
-      go (inr k) = fit-memberLines 1 q (omega (arith, v .head .slots .le)) l k
+      go (inr k) = fit-memberLines 1 q (omega arith) l k
 
-  pub length-heldText : length (heldText q (forced (demandsOf s) q) (capacity (fullHigh s) q)) ≤ planBytes
+  pub length-heldText : length (heldText q f c) ≤ planBytes
   unfolding heldText heldLines memberLines
   length-heldText =
       omega (
         arith,
-        length-append heldWord (writeLines (heldLines q (forced (demandsOf s) q) (capacity (fullHigh s) q))),
-        length-writeLines (heldLines q (forced (demandsOf s) q) (capacity (fullHigh s) q)),
+        length-append heldWord (writeLines (heldLines q f c)),
+        length-writeLines (heldLines q f c),
         length-map (membersFrom 1 q) (λ u. line u 0 0 0),
         length-membersFrom 1 q,
         shown-le,

@@ -9,19 +9,20 @@ use lib.ListN.{length, getD, take, length-map, length-take, replicate}
 use lib.Seq.{getD-take, ext-getD}
 use Rattle.common.specs.Lists.{range, flatMap, zipWith}
 use Rattle.common.specs.Bits.{bit}
-use Rattle.sheet.specs.Limits.{fields, maxRations}
-use Rattle.sheet.specs.Sheet.{Job, numbersOf}
-use Rattle.sheet.specs.Calls.{padded}
-use Rattle.placing.specs.Slots.{Slots, has}
-use Rattle.placing.specs.Schedules.{Schedule}
-use Rattle.placing.specs.Tabulate.{tab, tab-unique, getD-map-below}
-use Rattle.placing.specs.AsFunctions.{Rows, listed}
-use Rattle.listing.specs.Lines.{Line, partAt, slotLines, feedLines, planLines}
-use Rattle.listing.specs.Text.{planText}
-use Rattle.listing.specs.Inputs.{tankAt, tanksOf, rowOf, placingOf, setOf}
-use Rattle.listing.specs.SetBits.{setBits-past}
-use Rattle.listing.specs.FeedLaws.{wordLines, slotLines-word, has-rowOf}
-use Rattle.listing.specs.LengthLaws.{getD-map-range}
+use Rattle.line.specs.Layout.{fields}
+use Rattle.checks.specs.Limits.{maxRations}
+use Rattle.checks.specs.Sheet.{Job, numbersOf}
+use Rattle.common.specs.Buffers.{padded}
+use Rattle.schedules.specs.Slots.{Slots, has}
+use Rattle.schedules.specs.Schedules.{Schedule}
+use Rattle.schedules.specs.Tabulate.{tab, tab-unique, getD-map-below}
+use Rattle.schedules.specs.AsFunctions.{Rows}
+use Rattle.plan_lines.specs.Lines.{Line, partAt, slotLines, feedLines, planLines}
+use Rattle.plan_lines.specs.Text.{planText}
+use Rattle.plan_lines.specs.Inputs.{tankAt, tanksOf, rowOf, placingOf, setOf}
+use Rattle.plan_lines.specs.SetBits.{setBits-past}
+use Rattle.plan_lines.specs.FeedLaws.{wordLines, slotLines-word, has-rowOf}
+use Rattle.plan_lines.specs.LengthLaws.{getD-map-range}
 use Rattle.listing.specs.PlanSteps.{planOf}
 
 -- Sets and placings by place ---------------------------------------------------------
@@ -35,10 +36,6 @@ setOf-tab slots marks h =
 length-rowOf : (slots : ℕ) (words : List ℕ) (j : ℕ) → slots ≤ length words → length (rowOf slots words j) ≡ slots
 unfolding rowOf
 length-rowOf slots words j h = length-map (take slots words) (λ w. eqb (bit w j) 1) ∙ rw length-take (omega arith)
-
-pub rowOf-tab : (slots : ℕ) (words : List ℕ) (j : ℕ) → slots ≤ length words → rowOf slots words j ≡ tab slots (λ t. eqb (bit (getD words t 0) j) 1)
-rowOf-tab slots words j h =
-    tab-unique false (rowOf slots words j) slots (λ t. eqb (bit (getD words t 0) j) 1) (length-rowOf slots words j h) (λ t l. has-rowOf slots words t l h j)
 
 -- The words hold a placing p of n rations, and no other bit.
 pub record Holds (slots n : ℕ) (words : List ℕ) (p : Schedule) : Type 0 where
@@ -66,13 +63,6 @@ placingOf-holds slots n words p there h = ext-getD [] (map (rowOf slots words) (
         ∙ ap (rowOf slots words) (omega arith)
         ∙ ext-getD false (rowOf slots words j) (getD p j []) (length-rowOf slots words j there ∙ sym (h .rows j (omega (arith, h .rations))))
         (λ t k. let d : t < slots = rw (length-rowOf slots words j there) at k in has-rowOf slots words t d there j ∙ sym (h .fed j t l d))
-
--- as the placing is listed from the words
-pub placingOf-listed : (slots n : ℕ) (words : List ℕ) → slots ≤ length words → placingOf slots n words ≡ listed n slots (λ j t. eqb (bit (getD words t 0) j) 1)
-unfolding placingOf
-placingOf-listed slots n words h =
-    tab-unique [] (map (rowOf slots words) (range 0 n)) n (λ j. tab slots (λ t. eqb (bit (getD words t 0) j) 1)) (length-map-range (rowOf slots words) 0 n)
-    (λ j l. getD-rows (rowOf slots words) 0 n j l ∙ ap (rowOf slots words) (omega arith) ∙ rowOf-tab slots words j h)
 
 -- Tanks ------------------------------------------------------------------------------
 

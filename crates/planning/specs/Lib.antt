@@ -1,4 +1,5 @@
 -- Definitions, in reading order
+pub mod Problem
 pub mod Planning
 pub mod ReadListing
 -- The theorems a reader looks for
@@ -10,13 +11,13 @@ pub mod SlotSetLaws
 pub mod StretchLineLaws
 pub mod SlotLineLaws
 pub mod FeedLineLaws
-pub mod DayLaws
+pub mod PlacingLaws
 pub mod FitLaws
 pub mod WrittenLaws
+pub mod ProblemLaws
+pub mod AloneLaws
 -- What the functions within the crate require and ensure
 pub mod InputLaws
-pub mod SheetDays
-pub mod Refusals
-pub mod NumberLaws
+pub mod Contracts
+pub mod DayLaws
 pub mod CallAnswers
-pub mod CompareSteps

@@ -7,14 +7,15 @@ use native.Mathlib.Omega.{arith}
 use lib.ListN.{length}
 use lib.Seq.{drop-at}
 use Rattle.common.specs.Lists.{range}
-use Rattle.sheet.specs.Limits.{width, lineBytes}
-use Rattle.sheet.specs.Sheet.{lineCount, lineAt, valueAt, faultyLine, writeLine}
-use Rattle.sheet.specs.LineLaws.{length-writeLine, valueAt-writeLine, faultyLine-writeLine}
-use Rattle.sheet.specs.SheetLaws.{lineAt-zero, lineAt-suc, lineCount-lines}
-use Rattle.listing.specs.Sizes.{wordBytes}
-use Rattle.listing.specs.Lines.{Line}
-use Rattle.listing.specs.Text.{writeLines}
-use Rattle.listing.specs.Putting.{length-writeLines}
+use Rattle.line.specs.Layout.{width, lineBytes}
+use Rattle.checks.specs.Sheet.{lineCount, lineAt}
+use Rattle.line.specs.Line.{valueAt, faultyLine, writeLine}
+use Rattle.line.specs.LineLaws.{length-writeLine, valueAt-writeLine, faultyLine-writeLine}
+use Rattle.checks.specs.SheetLaws.{lineAt-zero, lineAt-suc, lineCount-lines}
+use Rattle.plan_lines.specs.Sizes.{wordBytes}
+use Rattle.plan_lines.specs.Lines.{Line}
+use Rattle.plan_lines.specs.Text.{writeLines}
+use Rattle.plan_lines.specs.Putting.{length-writeLines}
 use Rattle.planning.specs.ReadListing.{lineIn, linesOf}
 
 -- a line whose numbers have at most as many digits as a field has columns

@@ -6,15 +6,17 @@ use Prim.Native.Nat.{ℕ, _+_, _*_}
 use lib.Dec.{eqb, leb}
 use lib.ListN.{getD, take, drop}
 use Rattle.common.specs.Lists.{range, sum, any, keep}
-use Rattle.sheet.specs.Limits.{maxSlots}
-use Rattle.sheet.specs.Sheet.{Job, Sheet, lineCount, lineAt, valueAt}
-use Rattle.placing.specs.Slots.{Slots}
-use Rattle.placing.specs.Schedules.{Schedule}
-use Rattle.stretches.specs.Intervals.{Interval}
+use Rattle.checks.specs.Limits.{maxSlots}
+use Rattle.checks.specs.Sheet.{Job, Sheet, lineCount, lineAt}
+use Rattle.line.specs.Line.{valueAt}
+use Rattle.schedules.specs.Slots.{Slots}
+use Rattle.schedules.specs.Schedules.{Schedule}
+use Rattle.method.specs.Intervals.{Interval}
 use Rattle.planning.specs.declared.Planned.{Planned}
-use Rattle.listing.specs.Sizes.{wordBytes}
-use Rattle.bill.specs.Bill.{Stretch, blowerCharge}
-use Rattle.listing.specs.Lines.{Line, line}
+use Rattle.plan_lines.specs.Sizes.{wordBytes}
+use Rattle.energy.specs.declared.Stretch.{Stretch}
+use Rattle.bill.specs.Bill.{blowerCharge}
+use Rattle.plan_lines.specs.Lines.{Line, line}
 
 -- What was written --------------------------------------------------------------------
 
@@ -68,9 +70,9 @@ stretchesOn ls k = map stretchOn (keep (λ l. eqb (l .a) k) ls)
 unfoldable pub billOn : List Line → Line
 billOn ls = getD ls (1 + headLine ls .c + headLine ls .d) (line 0 0 0 0)
 
--- what the bill takes of a stretch line: first, last, state
+-- what the bill takes of a stretch line: blower, first, last, state
 unfoldable pub billed : Line → Stretch
-billed l = record { first = l .b; last = l .c; state = l .d }
+billed l = record { blower = l .a; first = l .b; last = l .c; state = l .d }
 
 -- the day's charge, from the stretch lines of each blower
 unfoldable pub chargeOn : (blowers wake : ℕ) → List Line → ℕ

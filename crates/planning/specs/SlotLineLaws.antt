@@ -7,11 +7,11 @@ use native.Mathlib.Nat.{suc-inj}
 use native.Mathlib.Omega.{arith}
 use lib.ListN.{length, getD, getD-replicate}
 use Rattle.common.specs.Lists.{range, keep, zipWith}
-use Rattle.placing.specs.Slots.{Slots, has}
-use Rattle.placing.specs.Schedules.{Schedule, oneMore, load}
-use Rattle.placing.specs.Tabulate.{getD-zipWith}
-use Rattle.placing.specs.AsFunctions.{Rows, length-load}
-use Rattle.listing.specs.Lines.{Line, fedIn, feedLine, slotLines}
+use Rattle.schedules.specs.Slots.{Slots, has}
+use Rattle.schedules.specs.Schedules.{Schedule, oneMore, load}
+use Rattle.schedules.specs.Tabulate.{getD-zipWith}
+use Rattle.schedules.specs.AsFunctions.{Rows, length-load}
+use Rattle.plan_lines.specs.Lines.{Line, fedIn, feedLine, slotLines}
 use Rattle.planning.specs.ListLaws.{in-zipWith}
 
 -- rations by their tanks and the slots in which they are fed

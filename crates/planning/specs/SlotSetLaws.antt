@@ -2,14 +2,14 @@
 use mathlib.Core.Path.{_≡_, refl, sym, ap, ap₂, _∙_}
 use mathlib.Core.Bool.{Bool, true, false, cond}
 use mathlib.Core.List.{List, [], _∷_, _++_, map}
-use Prim.Native.Nat.{ℕ, suc, _+_, _<_}
+use Prim.Native.Nat.{ℕ, zero, suc, _+_, _<_}
 use native.Mathlib.Omega.{arith}
 use lib.Dec.{eqb}
-use lib.ListN.{length}
+use lib.ListN.{length, length-map}
 use borrow.Author.Tests.{eq-eqb, ne-eqb}
 use Rattle.common.specs.Lists.{range, count, any, flatMap}
-use Rattle.placing.specs.Slots.{Slots, has}
-use Rattle.listing.specs.Lines.{line, membersFrom, memberLines}
+use Rattle.schedules.specs.Slots.{Slots, has}
+use Rattle.plan_lines.specs.Lines.{line, membersFrom, memberLines}
 use Rattle.planning.specs.ReadListing.{slotSet}
 use Rattle.planning.specs.ListLaws.{map-range-cong, flatMap-range-cong, flatMap-range-suc}
 
@@ -43,6 +43,14 @@ members-set s (b ∷ q) =
     (map-range-cong (suc s) (length q) (λ t l k. slot-later s t b (membersFrom (suc s) q) l) ∙ members-set (suc s) q)
 
 -- The set of the slots that are listed for a set of the day's slots is that set.
+pub length-slotSet : (slots : ℕ) (ts : List ℕ) → length (slotSet slots ts) ≡ slots
+unfolding slotSet
+length-slotSet slots ts = length-map (range 1 slots) (λ t. any (eqb t) ts) ∙ length-range 1 slots
+  where
+    length-range : (a n : ℕ) → length (range a n) ≡ n
+    length-range a zero = refl
+    length-range a (suc n) = ap suc (length-range (suc a) n)
+
 pub slotSet-members : (slots : ℕ) (q : Slots) → length q ≡ slots → slotSet slots (membersFrom 1 q) ≡ q
 unfolding slotSet
 slotSet-members slots q e = ap (λ n. map (λ t. any (eqb t) (membersFrom 1 q)) (range 1 n)) (sym e) ∙ members-set 1 q

@@ -10,14 +10,15 @@ use lib.Dec.{leb, eqb}
 use lib.ListN.{length}
 use borrow.Author.Tests.{eq-eqb, ne-eqb}
 use Rattle.common.specs.Lists.{range, sum, keep, flatMap}
-use Rattle.placing.specs.ListLaws.{in-flatMap}
-use Rattle.stretches.specs.Intervals.{Interval, intervals, size}
-use Rattle.stretches.specs.Keeping.{withNoSlots, stretches}
-use Rattle.stretches.specs.Cases.{le-or-lt}
-use Rattle.stretches.specs.IntervalLaws.{interval-longest}
-use Rattle.energy.specs.Energy.{atEnd, state}
-use Rattle.bill.specs.Bill.{Stretch, blowerCharge, listed, listedFor, charge}
-use Rattle.listing.specs.Lines.{Line, stretchLine, blowerLines, stretchLines}
+use Rattle.schedules.specs.ListLaws.{in-flatMap}
+use Rattle.method.specs.Intervals.{Interval, intervals, size}
+use Rattle.method.specs.Keeping.{withNoSlots, stretches}
+use Rattle.method.specs.Cases.{le-or-lt}
+use Rattle.method.specs.IntervalLaws.{interval-longest}
+use Rattle.energy.specs.Energy.{atEnd, state, listed, listedFor}
+use Rattle.energy.specs.declared.Stretch.{Stretch}
+use Rattle.bill.specs.Bill.{blowerCharge, charge}
+use Rattle.plan_lines.specs.Lines.{Line, stretchLine, blowerLines, stretchLines}
 use Rattle.planning.specs.ReadListing.{stretchOn, stretchesOn, billed, chargeOn}
 use Rattle.planning.specs.ListLaws.{in-range, map-range-cong, flatMap-range-none, flatMap-range-one, keep-all, keep-none, keep-flatMap}
 
@@ -62,9 +63,9 @@ module _ (q : ℕ) (counts : List ℕ) where
   unfolding blowerLines billed stretchLine listedFor listed
   billed-blowerLines j = go (intervals counts j)
     where
-      go : (vs : List Interval) → map billed (map (stretchLine (length counts) q j) vs) ≡ map (listed (length counts) q) vs
+      go : (vs : List Interval) → map billed (map (stretchLine (length counts) q j) vs) ≡ map (listed (length counts) q j) vs
       go [] = refl
-      go (v ∷ vs) = ap (λ (xs : List Stretch). listed (length counts) q v ∷ xs) (go vs)
+      go (v ∷ vs) = ap (λ (xs : List Stretch). listed (length counts) q j v ∷ xs) (go vs)
 
   blower-same : (k : ℕ) → keep (λ l. eqb (l .a) k) (blowerLines q counts k) ≡ blowerLines q counts k
   blower-same k = keep-all (λ l. eqb (l .a) k) (blowerLines q counts k) (λ l m. eq-eqb (l .a) k (of-blower k l m))

@@ -1,27 +1,28 @@
--- The planning layer's theorems, for every well-formed sheet: its listing is read back to its lines and fits the plan
--- buffer, energy and starts fit their fields. Here are the statements; the law files have the proofs. What the calls
--- answer altogether is in the crate `demands`. Assumes nothing.
+-- The planning layer's theorems, for every problem in range: its listing is read back to its lines and fits the plan
+-- buffer, energy and starts fit their fields; a well-formed sheet planned alone is such a problem. Here are the
+-- statements; the law files have the proofs. What the calls answer altogether is in the crate `demands`. Assumes nothing.
 use mathlib.Core.Path.{_≡_, refl, sym, ap, ap₂, _∙_}
 use mathlib.Core.Bool.{Bool, true, false}
 use mathlib.Core.List.{List, [], _++_}
 use Prim.Native.Nat.{ℕ, _^_, _≤_, _<_}
 use lib.ListN.{length, take, drop}
 use lib.Seq.{drop-at, take-at}
-use Rattle.sheet.specs.Limits.{width}
-use Rattle.sheet.specs.Sheet.{Sheet, lineAt, faultyLine, sheetOf}
-use Rattle.sheet.specs.Checks.{faults}
+use Rattle.line.specs.Layout.{width}
+use Rattle.checks.specs.Sheet.{lineAt, sheetOf}
+use Rattle.line.specs.Line.{faultyLine}
+use Rattle.checks.specs.Checks.{faults}
 use Rattle.sheet.specs.Calls.{accepted}
-use Rattle.sheet.specs.RangeLaws.{ValuesInRange}
-use Rattle.sheet.specs.WellFormedLaws.{wellFormed-faults}
+use Rattle.checks.specs.WellFormedLaws.{wellFormed-faults}
 use Rattle.energy.specs.Energy.{starts, energy}
-use Rattle.listing.specs.Sizes.{wordBytes, planBytes, gridBytes}
-use Rattle.listing.specs.Lines.{Line, planLines}
-use Rattle.listing.specs.Text.{writeLines, planWord, heldWord, planText, heldText}
-use Rattle.planning.specs.Planning.{canBePlanned, countsOf, planOf, shownSet, listingOf}
+use Rattle.plan_lines.specs.Sizes.{wordBytes, planBytes, gridBytes}
+use Rattle.plan_lines.specs.Lines.{Line, planLines}
+use Rattle.plan_lines.specs.Text.{writeLines, planWord, heldWord, planText, heldText}
+use Rattle.planning.specs.Problem.{Problem, alone, ProblemInRange, canBePlanned, feedingsOf, countsOf, planWith, listingOf}
 use Rattle.planning.specs.ReadListing.{linesOf}
 use Rattle.planning.specs.ReadLaws.{FitLines, linesOf-written, faultyLine-written}
-use Rattle.planning.specs.FitLaws.{energy-fits, starts-fit, fit-planLines, fit-heldLines}
-use Rattle.planning.specs.WrittenLaws.{listing-plan, listing-held, length-shownSet, shownLines, length-listing}
+use Rattle.planning.specs.FitLaws.{energy-fits, starts-fit, fit-planLines}
+use Rattle.planning.specs.ProblemLaws.{heldLinesOf, listing-plan, listing-held, feedings-sound, fit-held, length-listing}
+use Rattle.planning.specs.AloneLaws.{alone-in-range}
 
 -- Sizes, as document 01 and request 103 have them --------------------------------------------------------------
 
@@ -51,31 +52,36 @@ reads-as text word ls e w f =
     l : linesOf text ≡ ls
     l = ap linesOf e ∙ linesOf-written word ls w f
 
--- the lines of a sheet's plan, or of the sheet that is held
-unfoldable pub linesListed : Sheet → List Line
-linesListed s = elim (canBePlanned s) [ true ↦ planLines (planOf s) | false ↦ shownLines s ]
+-- the lines of a problem's plan, or of the problem that is held
+unfoldable pub linesListed : Problem → List Line
+linesListed p = elim (canBePlanned p) [ true ↦ planLines (planWith (p .sheet) (feedingsOf p)) | false ↦ heldLinesOf p ]
 
-module _ (b : List ℕ) (accepted : faults b ≡ []) where
-  abbrev s : Sheet
-  s = sheetOf b
-
-  values : ValuesInRange s (length (s .jobs)) true
-  values = wellFormed-faults b accepted .values
-
-  -- The listing of an accepted sheet is read back.
-  pub listing-read-back : ReadsAs (listingOf s) (linesListed s)
+module _ (p : Problem) (g : ProblemInRange p) where
+  -- Its listing is read back.
+  pub listing-read-back : ReadsAs (listingOf p) (linesListed p)
   unfolding linesListed planText heldText
-  listing-read-back = go (canBePlanned s) refl
+  listing-read-back = go (canBePlanned p) refl
     where
-      go : (c : Bool) → canBePlanned s ≡ c → ReadsAs (listingOf s) (linesListed s)
-      go true e = rw (e, linesListed) (reads-as (listingOf s) planWord (planLines (planOf s)) (listing-plan s values e) refl (fit-planLines s values e))
-      go false e = rw (e, linesListed) (reads-as (listingOf s) heldWord (shownLines s) (listing-held s values e) refl (fit-heldLines s values (shownSet s) (length-shownSet s)))
+      go : (c : Bool) → canBePlanned p ≡ c → ReadsAs (listingOf p) (linesListed p)
+      go true e =
+          rw (e, linesListed)
+          (reads-as (listingOf p) planWord (planLines (planWith (p .sheet) (feedingsOf p))) (listing-plan p e) refl
+          (fit-planLines (p .sheet) (g .values) (feedingsOf p) (feedings-sound p g e)))
+      go false e = rw (e, linesListed) (reads-as (listingOf p) heldWord (heldLinesOf p) (listing-held p e) refl (fit-held p g))
 
   -- It is at most 32,303 bytes long.
-  pub listing-length : length (listingOf s) ≤ planBytes
-  listing-length = length-listing s values
+  pub listing-fits : length (listingOf p) ≤ planBytes
+  listing-fits = length-listing p g
 
   -- Energy and starts fit their fields.
-  pub energy-and-starts-fit : canBePlanned s ≡ true
-      → (energy (s .blowers) (s .wake) (countsOf s) < 10 ^ width) × (starts (s .blowers) (s .wake) (countsOf s) < 10 ^ width)
-  energy-and-starts-fit e = (energy-fits s values e, starts-fit s values e)
+  pub energy-and-starts-fit : canBePlanned p ≡ true
+      → (energy (p .sheet .blowers) (p .sheet .wake) (countsOf p) < 10 ^ width) × (starts (p .sheet .blowers) (p .sheet .wake) (countsOf p) < 10 ^ width)
+  unfolding countsOf
+  energy-and-starts-fit e =
+      let s = p .sheet in
+      let q = feedings-sound p g e in
+      (energy-fits s (g .values) (feedingsOf p) q, starts-fit s (g .values) (feedingsOf p) q)
+
+-- of an accepted sheet
+pub accepted-in-range : (b : List ℕ) → faults b ≡ [] → ProblemInRange (alone (sheetOf b))
+accepted-in-range b accepted = alone-in-range (sheetOf b) (wellFormed-faults b accepted .values)

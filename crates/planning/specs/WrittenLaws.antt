@@ -1,41 +1,41 @@
--- What a planning call leaves for a well-formed sheet where no lent buffer is too short: its number, the listing that it wrote, and the lines of it.
--- Assumes nothing.
+-- What a planning call leaves where its sheet is well-formed and no lent buffer is too short: its number, and the
+-- listing that it wrote; and the lines of a plan with any sound placing. Assumes nothing.
 use mathlib.Core.Path.{_≡_, refl, sym, ap, ap₂, _∙_}
 use mathlib.Core.Bool.{Bool, true, false, cond}
 use mathlib.Core.List.{List, [], _∷_, _++_}
-use Prim.Native.Nat.{ℕ, suc, _+_, _≤_}
+use Prim.Native.Nat.{ℕ, suc, _+_}
 use native.Mathlib.Omega.{arith}
 use lib.ListN.{length, getD, take, drop}
 use lib.Seq.{take-at, take-append-seam, drop-append-seam, getD-append-add}
-use Rattle.sheet.specs.declared.Refusal.{Refusal}
-use Rattle.sheet.specs.Sheet.{Sheet, sheetOf}
-use Rattle.sheet.specs.Checks.{firstRefusal, faults}
-use Rattle.sheet.specs.Calls.{over}
-use Rattle.sheet.specs.RangeLaws.{ValuesInRange}
-use Rattle.placing.specs.Shortfall.{forced, capacity}
-use Rattle.placing.specs.Demands.{demandsOf, fullHigh}
-use Rattle.placing.specs.CriticalLaws.{length-criticalSet}
-use Rattle.placing.specs.DemandLaws.{windows-demandsOf}
+use Rattle.checks.specs.declared.Refusal.{Refusal}
+use Rattle.checks.specs.Refusals.{noPlacing}
+use Rattle.checks.specs.Sheet.{Sheet}
+use Rattle.checks.specs.Checks.{firstRefusal}
+use Rattle.common.specs.Buffers.{over}
+use Rattle.checks.specs.RangeLaws.{ValuesInRange}
+use Rattle.schedules.specs.Schedules.{Schedule, load}
 use Rattle.energy.specs.Energy.{starts, energy}
 use Rattle.bill.specs.Bill.{charge}
-use Rattle.listing.specs.Sizes.{wordBytes, planBytes}
-use Rattle.listing.specs.Lines.{Line, line, stretchLines, feedLines, billLine, planLines, heldLines}
-use Rattle.listing.specs.Text.{writeLines, planWord, heldWord, planText, heldText, gridOf}
-use Rattle.planning.specs.Planning.{canBePlanned, countsOf, feedingsOf, planOf, shownSet, listingOf, gridFor, heldFaults, planRefusal, writes, listedAnswer, listingAfter, gridAfter}
-use Rattle.planning.specs.ReadListing.{tanks, linesOf, headLine, stretchPart, feedPart, billOn}
+use Rattle.plan_lines.specs.Sizes.{wordBytes}
+use Rattle.plan_lines.specs.Lines.{Line, line, stretchLines, feedLines, billLine, planLines}
+use Rattle.plan_lines.specs.Text.{writeLines, planWord, planText}
+use Rattle.planning.specs.Problem.{Problem, SoundPlacing, canBePlanned, planWith}
+use Rattle.planning.specs.Planning.{planChecks, writes, listedAnswer, listingAfter, gridAfter}
+use Rattle.planning.specs.ReadListing.{written, tanks, linesOf, headLine, stretchPart, feedPart, billOn, placingOn}
 use Rattle.planning.specs.ReadLaws.{linesOf-written}
-use Rattle.planning.specs.DayLaws.{length-fullHigh}
-use Rattle.planning.specs.FitLaws.{fit-planLines, fit-heldLines, length-planText, length-heldText}
+use Rattle.planning.specs.FeedLineLaws as Feed
+use Rattle.planning.specs.PlacingLaws.{placing-rows, length-placing, tanks-placing, own-lines}
+use Rattle.planning.specs.FitLaws.{fit-planLines}
 
 -- The refusal -------------------------------------------------------------------------
 
-module _ (b : List ℕ) (formed : faults b ≡ []) (short : Bool) (enough : short ≡ false) where
-  pub number-planned : canBePlanned (sheetOf b) ≡ true → planRefusal b short .number ≡ 0
-  unfolding planRefusal heldFaults firstRefusal
+module _ {own : List Refusal} (p : Problem) (formed : own ≡ []) (short : Bool) (enough : short ≡ false) where
+  pub number-planned : canBePlanned p ≡ true → firstRefusal (planChecks own short p) .number ≡ 0
+  unfolding firstRefusal
   number-planned e = rw (formed, enough, e)
 
-  pub number-held : canBePlanned (sheetOf b) ≡ false → planRefusal b short .number ≡ 12
-  unfolding planRefusal heldFaults firstRefusal
+  pub number-held : canBePlanned p ≡ false → firstRefusal (planChecks own short p) .number ≡ noPlacing
+  unfolding firstRefusal
   number-held e = rw (formed, enough, e)
 
 -- What was written ---------------------------------------------------------------------
@@ -45,113 +45,78 @@ unfolding over
 written-front new old w e = rw e (take-append-seam new (drop (length new) old))
 
 -- a call that gives 0 or 12 wrote the listing ..
-pub listing-written : (r : Refusal) (s : Sheet) (old : List ℕ) → writes (r .number) ≡ true
-    → take (listedAnswer r s .length) (listingAfter r s old) ≡ listingOf s
+pub listing-written : (r : Refusal) (listing old : List ℕ) → writes (r .number) ≡ true
+    → written (listedAnswer r listing) (listingAfter r listing old) ≡ listing
 unfolding listedAnswer listingAfter
-listing-written r s old e = written-front (listingOf s) old (writes (r .number)) e
+listing-written r listing old e = written-front listing old (writes (r .number)) e
 
 -- .. and the placing buffer's bytes
-pub grid-written : (r : Refusal) (s : Sheet) (old : List ℕ) → writes (r .number) ≡ true → gridAfter r s old ≡ over (gridFor s) old
+pub grid-written : (r : Refusal) (grid old : List ℕ) → writes (r .number) ≡ true → gridAfter r grid old ≡ over grid old
 unfolding gridAfter
-grid-written r s old e = rw e
+grid-written r grid old e = rw e
 
 pub writes-planned : (n : ℕ) → n ≡ 0 → writes n ≡ true
 unfolding writes
 writes-planned n e = rw e
 
-pub writes-held : (n : ℕ) → n ≡ 12 → writes n ≡ true
+pub writes-held : (n : ℕ) → n ≡ noPlacing → writes n ≡ true
 unfolding writes
 writes-held n e = rw e
 
 -- A plan's lines -------------------------------------------------------------------------
 
-module _ (s : Sheet) (v : ValuesInRange s (length (s .jobs)) true) (can : canBePlanned s ≡ true) where
-  pub listing-plan : listingOf s ≡ planText (planOf s)
-  unfolding listingOf
-  listing-plan = rw (can, listingOf)
-
-  pub grid-plan : gridFor s ≡ gridOf (feedingsOf s)
-  unfolding gridFor
-  grid-plan = rw (can, gridFor)
-
-  pub word-plan : take wordBytes (planText (planOf s)) ≡ planWord
+module _ (s : Sheet) (v : ValuesInRange 0 s (length (s .jobs)) true) (p : Schedule) (can : SoundPlacing s p) where
+  pub word-plan : take wordBytes (planText (planWith s p)) ≡ planWord
   unfolding planText
-  word-plan = take-at planWord (writeLines (planLines (planOf s))) wordBytes refl
+  word-plan = take-at planWord (writeLines (planLines (planWith s p))) wordBytes refl
 
-  pub lines-plan : linesOf (planText (planOf s)) ≡ planLines (planOf s)
+  pub lines-plan : linesOf (planText (planWith s p)) ≡ planLines (planWith s p)
   unfolding planText
-  lines-plan = linesOf-written planWord (planLines (planOf s)) refl (fit-planLines s v can)
+  lines-plan = linesOf-written planWord (planLines (planWith s p)) refl (fit-planLines s v p can)
 
-pub head-plan : (s : Sheet) → (headLine (planLines (planOf s)) .a ≡ energy (s .blowers) (s .wake) (countsOf s))
-    × (headLine (planLines (planOf s)) .b ≡ starts (s .blowers) (s .wake) (countsOf s))
-unfolding headLine planLines planOf
-head-plan s = (refl, refl)
+pub head-plan : (s : Sheet) (p : Schedule) → (headLine (planLines (planWith s p)) .a ≡ energy (s .blowers) (s .wake) (load (s .slots) p))
+    × (headLine (planLines (planWith s p)) .b ≡ starts (s .blowers) (s .wake) (load (s .slots) p))
+unfolding headLine planLines planWith
+head-plan s p = (refl, refl)
 
-pub stretchPart-plan : (s : Sheet) → stretchPart (planLines (planOf s)) ≡ stretchLines (s .blowers) (s .wake) (countsOf s)
-unfolding stretchPart headLine planLines planOf
-stretchPart-plan s = take-append-seam (stretchLines (s .blowers) (s .wake) (countsOf s)) _
+pub stretchPart-plan : (s : Sheet) (p : Schedule) → stretchPart (planLines (planWith s p)) ≡ stretchLines (s .blowers) (s .wake) (load (s .slots) p)
+unfolding stretchPart headLine planLines planWith
+stretchPart-plan s p = take-append-seam (stretchLines (s .blowers) (s .wake) (load (s .slots) p)) _
 
-pub feedPart-plan : (s : Sheet) → feedPart (planLines (planOf s)) ≡ feedLines (s .slots) (tanks s) (feedingsOf s)
-unfolding feedPart headLine planLines planOf
-feedPart-plan s =
-    ap (take (length (feedLines (s .slots) (tanks s) (feedingsOf s))))
-    (drop-append-seam (stretchLines (s .blowers) (s .wake) (countsOf s)) _)
-    ∙ take-append-seam (feedLines (s .slots) (tanks s) (feedingsOf s)) _
+pub feedPart-plan : (s : Sheet) (p : Schedule) → feedPart (planLines (planWith s p)) ≡ feedLines (s .slots) (tanks s) p
+unfolding feedPart headLine planLines planWith
+feedPart-plan s p =
+    ap (take (length (feedLines (s .slots) (tanks s) p)))
+    (drop-append-seam (stretchLines (s .blowers) (s .wake) (load (s .slots) p)) _)
+    ∙ take-append-seam (feedLines (s .slots) (tanks s) p) _
 
 -- the bill is that of the charge
-pub bill-plan : (s : Sheet) → billOn (planLines (planOf s)) ≡ billLine (charge (s .blowers) (s .wake) (countsOf s))
-unfolding billOn headLine planLines planOf
-bill-plan s =
-    ap (λ n. getD (planLines (planOf s)) n (line 0 0 0 0)) (place (length stretchLs) (length feedLs))
+pub bill-plan : (s : Sheet) (p : Schedule) → billOn (planLines (planWith s p)) ≡ billLine (charge (s .blowers) (s .wake) (load (s .slots) p))
+unfolding billOn headLine planLines planWith
+bill-plan s p =
+    ap (λ n. getD (planLines (planWith s p)) n (line 0 0 0 0)) (place (length stretchLs) (length feedLs))
     ∙ getD-append-add stretchLs _ (length feedLs + 0) (line 0 0 0 0)
     ∙ getD-append-add feedLs _ 0 (line 0 0 0 0)
   where
     stretchLs : List Line
-    stretchLs = stretchLines (s .blowers) (s .wake) (countsOf s)
+    stretchLs = stretchLines (s .blowers) (s .wake) (load (s .slots) p)
 
     feedLs : List Line
-    feedLs = feedLines (s .slots) (tanks s) (feedingsOf s)
+    feedLs = feedLines (s .slots) (tanks s) p
 
     place : (a b : ℕ) → 1 + a + b ≡ suc (a + (b + 0))
     place a b = omega arith
 
-pub whole-plan : (s : Sheet)
-    → planLines (planOf s) ≡ headLine (planLines (planOf s)) ∷ stretchPart (planLines (planOf s)) ++ (feedPart (planLines (planOf s)) ++ (billOn (planLines (planOf s)) ∷ []))
-unfolding headLine planLines planOf
-whole-plan s =
-    ap₂ (λ (x y : List Line). headLine (planLines (planOf s)) ∷ x ++ y) (sym (stretchPart-plan s))
-    (ap₂ (λ (x : List Line) (y : Line). x ++ (y ∷ [])) (sym (feedPart-plan s)) (sym (bill-plan s)))
+pub whole-plan : (s : Sheet) (p : Schedule)
+    → planLines (planWith s p) ≡ headLine (planLines (planWith s p)) ∷ stretchPart (planLines (planWith s p)) ++ (feedPart (planLines (planWith s p)) ++ (billOn (planLines (planWith s p)) ∷ []))
+unfolding headLine planLines planWith
+whole-plan s p =
+    ap₂ (λ (x y : List Line). headLine (planLines (planWith s p)) ∷ x ++ y) (sym (stretchPart-plan s p))
+    (ap₂ (λ (x : List Line) (y : Line). x ++ (y ∷ [])) (sym (feedPart-plan s p)) (sym (bill-plan s p)))
 
--- A held sheet's lines ---------------------------------------------------------------------
-
--- the lines of a sheet that is held
-abbrev pub shownLines : Sheet → List Line
-shownLines s = heldLines (shownSet s) (forced (demandsOf s) (shownSet s)) (capacity (fullHigh s) (shownSet s))
-
-module _ (s : Sheet) where
-  pub length-shownSet : length (shownSet s) ≡ s .slots
-  unfolding shownSet
-  length-shownSet = length-criticalSet (windows-demandsOf s) (fullHigh s) (length-fullHigh s)
-
-module _ (s : Sheet) (v : ValuesInRange s (length (s .jobs)) true) (held : canBePlanned s ≡ false) where
-  pub listing-held : listingOf s ≡ heldText (shownSet s) (forced (demandsOf s) (shownSet s)) (capacity (fullHigh s) (shownSet s))
-  unfolding listingOf
-  listing-held = rw (held, listingOf)
-
-  pub word-held : take wordBytes (listingOf s) ≡ heldWord
-  unfolding heldText
-  word-held = ap (take wordBytes) listing-held ∙ take-at heldWord (writeLines (shownLines s)) wordBytes refl
-
-  pub lines-held : linesOf (listingOf s) ≡ shownLines s
-  unfolding heldText
-  lines-held = ap linesOf listing-held ∙ linesOf-written heldWord (shownLines s) refl (fit-heldLines s v (shownSet s) (length-shownSet s))
-
--- Sizes --------------------------------------------------------------------------------------
-
--- No listing is longer than the plan buffer must be.
-pub length-listing : (s : Sheet) → ValuesInRange s (length (s .jobs)) true → length (listingOf s) ≤ planBytes
-length-listing s v = go (canBePlanned s) refl
-  where
-    go : (c : Bool) → canBePlanned s ≡ c → length (listingOf s) ≤ planBytes
-    go true e = rw (listing-plan s v e) (length-planText s v e)
-    go false e = rw (listing-held s v e) (length-heldText s v (shownSet s) (length-shownSet s))
+module _ (s : Sheet) (v : ValuesInRange 0 s (length (s .jobs)) true) (p : Schedule) (can : SoundPlacing s p) where
+  -- the placing on the feed lines
+  pub placing-on : placingOn (s .slots) (s .jobs) (feedPart (planLines (planWith s p))) ≡ p
+  placing-on =
+      ap (placingOn (s .slots) (s .jobs)) (feedPart-plan s p)
+      ∙ Feed.placingOn-lines (s .slots) (tanks s) p (tanks-placing s p can) (placing-rows s p can) (s .jobs) (sym (length-placing s p can)) (own-lines s p can v)

@@ -1,20 +1,25 @@
-// The planning calls.
+// The planning calls. Each over a sheet's bytes reads them and hands the reading to the function that plans it; the
+// calls on records hand over a reading of their own.
 use crate::Planned;
+use checks::refusals::NO_PLACING;
+use checks::refusals::SHORT_BUFFER;
 use listing::grid;
 use listing::held;
 use listing::plan_listing;
-use listing::sizes::GRID_BYTES;
-use listing::sizes::PLAN_BYTES;
+use plan_lines::sizes::GRID_BYTES;
+use plan_lines::sizes::PLAN_BYTES;
 use sheet::Reading;
 use stretches::Day;
 ghost use mathlib.Core.Path.{_≡_};
 ghost use mathlib.Core.Bool.{false, _||_};
 ghost use Prim.Native.Nat.{_≤_};
 ghost use lib.ListN.{length};
-ghost use Rattle.sheet.specs.Sheet.{sheetOf};
-ghost use Rattle.listing.specs.Sizes.{planBytes, gridBytes};
+ghost use Rattle.checks.specs.Sheet.{sheetOf};
+ghost use Rattle.sheet.specs.OwnChecks.{SomeReading};
+ghost use Rattle.plan_lines.specs.Sizes.{planBytes, gridBytes};
+ghost use Rattle.planning.specs.Problem.{alone, listingOf, gridFor};
 ghost use Rattle.planning.specs.Planning.{planRefusal, shortPlan, shortGrid, listedAnswer, unlistedAnswer, listingAfter, gridAfter};
-ghost use Rattle.planning.specs.SheetDays.{ReadSheet, DayFound, SomeSheetDay, DayListed, DayPlaced, NumberOf};
+ghost use Rattle.planning.specs.Contracts.{ReadSheet, DayFound, SomeDay, DayListed, DayPlaced, NumberOf, ReadListed, ReadPlaced, ReadBoth, ReadNumbered};
 
 // A refusal's answer: nothing was written.
 fn refuse(number: u32, line: u32) -> Planned
@@ -43,13 +48,13 @@ pub fn day_of(sheet: Reading) -> Day
 
 // Writes the listing of a day, planned or held, and answers its length.
 fn list_day(sheet: Reading, day: Day, out: &mut [u8]) -> usize
-    requires { ⌜ SomeSheetDay sheet day × (planBytes ≤ length (now out)) ⌝ }
+    requires { ⌜ SomeDay sheet day × (planBytes ≤ length (now out)) ⌝ }
     ensures { λ r. ⌜ DayListed sheet day (now (out .entry)) (now (out .exit)) r ⌝ }
 {
     let slots = sheet.slots as usize;
     if day.held {
         let marks = day.marks;
-        return held::put_held(out, slots, sheet.blowers, &marks, day.forced);
+        return held::put_held(out, slots, &marks, day.forced, day.capacity);
     }
     let counts = day.counts;
     let numbers = sheet.numbers;
@@ -67,7 +72,7 @@ fn list_day(sheet: Reading, day: Day, out: &mut [u8]) -> usize
 
 // Writes the placing of a day, all 0 where it is held.
 fn place_day(sheet: Reading, day: Day, out: &mut [u8])
-    requires { ⌜ SomeSheetDay sheet day × (gridBytes ≤ length (now out)) ⌝ }
+    requires { ⌜ SomeDay sheet day × (gridBytes ≤ length (now out)) ⌝ }
     ensures { λ _. ⌜ DayPlaced sheet day (now (out .entry)) (now (out .exit)) ⌝ }
 {
     if day.held {
@@ -82,21 +87,19 @@ fn place_day(sheet: Reading, day: Day, out: &mut [u8])
 fn number_of(is_held: bool) -> u32
     ensures { λ r. ⌜ r ≡ NumberOf «is_held» ⌝ }
 {
-    if is_held { 12 } else { 0 }
+    if is_held { NO_PLACING } else { 0 }
 }
 
-// Plans a sheet, with a plan buffer lent: number 0 and the length of the listing of the plan, or 12 and that of the listing of the held sheet, at the front of
-// `listing`, whose other bytes keep their values; or the number and the line of the first other refusal, and nothing written.
-pub fn plan(b: &[u8], listing: &mut [u8]) -> Planned
-    ensures { λ r. ⌜ r ≡ listedAnswer (planRefusal (now (b .entry)) (shortPlan (now (listing .entry)))) (sheetOf (now (b .entry))) ⌝ }
-    ensures { λ _. ⌜ now (listing .exit) ≡ listingAfter (planRefusal (now (b .entry)) (shortPlan (now (listing .entry)))) (sheetOf (now (b .entry))) (now (listing .entry)) ⌝ }
+// Plans a sheet that was read, with a plan buffer lent.
+pub fn plan_of(sheet: Reading, listing: &mut [u8]) -> Planned
+    requires { ⌜ SomeReading sheet ⌝ }
+    ensures { λ r. ⌜ ReadListed sheet (now (listing .entry)) (now (listing .exit)) r ⌝ }
 {
-    let sheet = sheet::read(b);
     if sheet.number != 0 {
         return refuse(sheet.number, sheet.line);
     }
     if listing.len() < PLAN_BYTES {
-        return refuse(10, 0);
+        return refuse(SHORT_BUFFER, 0);
     }
     let day = day_of(sheet);
     let length = list_day(sheet, day, listing);
@@ -105,60 +108,90 @@ pub fn plan(b: &[u8], listing: &mut [u8]) -> Planned
         line: 0,
         length,
     }
+}
+
+// With a placing buffer lent.
+pub fn plan_placing_of(sheet: Reading, placing: &mut [u8]) -> Planned
+    requires { ⌜ SomeReading sheet ⌝ }
+    ensures { λ r. ⌜ ReadPlaced sheet (now (placing .entry)) (now (placing .exit)) r ⌝ }
+{
+    if sheet.number != 0 {
+        return refuse(sheet.number, sheet.line);
+    }
+    if placing.len() < GRID_BYTES {
+        return refuse(SHORT_BUFFER, 0);
+    }
+    let day = day_of(sheet);
+    place_day(sheet, day, placing);
+    refuse(number_of(day.held), 0)
+}
+
+// With both buffers lent.
+pub fn plan_both_of(sheet: Reading, listing: &mut [u8], placing: &mut [u8]) -> Planned
+    requires { ⌜ SomeReading sheet ⌝ }
+    ensures { λ r. ⌜ ReadBoth sheet (now (listing .entry)) (now (listing .exit)) (now (placing .entry)) (now (placing .exit)) r ⌝ }
+{
+    if sheet.number != 0 {
+        return refuse(sheet.number, sheet.line);
+    }
+    if listing.len() < PLAN_BYTES {
+        return refuse(SHORT_BUFFER, 0);
+    }
+    if placing.len() < GRID_BYTES {
+        return refuse(SHORT_BUFFER, 0);
+    }
+    let day = day_of(sheet);
+    place_day(sheet, day, placing);
+    let length = list_day(sheet, day, listing);
+    Planned {
+        number: number_of(day.held),
+        line: 0,
+        length,
+    }
+}
+
+// With no buffer lent: the number and the line alone.
+pub fn plan_number_of(sheet: Reading) -> Planned
+    requires { ⌜ SomeReading sheet ⌝ }
+    ensures { λ r. ⌜ ReadNumbered sheet r ⌝ }
+{
+    if sheet.number != 0 {
+        return refuse(sheet.number, sheet.line);
+    }
+    let day = day_of(sheet);
+    refuse(number_of(day.held), 0)
+}
+
+// Plans a sheet, with a plan buffer lent: number 0 and the length of the listing of the plan, or 12 and that of the listing of the held sheet, at the front of
+// `listing`, whose other bytes keep their values; or the number and the line of the first other refusal, and nothing written.
+pub fn plan(b: &[u8], listing: &mut [u8]) -> Planned
+    ensures { λ r. ⌜ r ≡ listedAnswer (planRefusal (now (b .entry)) (shortPlan (now (listing .entry)))) (listingOf (alone (sheetOf (now (b .entry))))) ⌝ }
+    ensures { λ _. ⌜ now (listing .exit) ≡ listingAfter (planRefusal (now (b .entry)) (shortPlan (now (listing .entry)))) (listingOf (alone (sheetOf (now (b .entry))))) (now (listing .entry)) ⌝ }
+{
+    plan_of(sheet::read(b), listing)
 }
 
 // Plans a sheet, with a placing buffer lent: the number and the line as `plan` gives them, and length 0; the placing at the front of `placing`, all 0 where the
 // sheet is held for want of blowers, and nothing written on any other refusal.
 pub fn plan_placing(b: &[u8], placing: &mut [u8]) -> Planned
     ensures { λ r. ⌜ r ≡ unlistedAnswer (planRefusal (now (b .entry)) (shortGrid (now (placing .entry)))) ⌝ }
-    ensures { λ _. ⌜ now (placing .exit) ≡ gridAfter (planRefusal (now (b .entry)) (shortGrid (now (placing .entry)))) (sheetOf (now (b .entry))) (now (placing .entry)) ⌝ }
+    ensures { λ _. ⌜ now (placing .exit) ≡ gridAfter (planRefusal (now (b .entry)) (shortGrid (now (placing .entry)))) (gridFor (alone (sheetOf (now (b .entry))))) (now (placing .entry)) ⌝ }
 {
-    let sheet = sheet::read(b);
-    if sheet.number != 0 {
-        return refuse(sheet.number, sheet.line);
-    }
-    if placing.len() < GRID_BYTES {
-        return refuse(10, 0);
-    }
-    let day = day_of(sheet);
-    place_day(sheet, day, placing);
-    refuse(number_of(day.held), 0)
+    plan_placing_of(sheet::read(b), placing)
 }
 
 // Plans a sheet, with both buffers lent.
 pub fn plan_both(b: &[u8], listing: &mut [u8], placing: &mut [u8]) -> Planned
-    ensures { λ r. ⌜ r ≡ listedAnswer (planRefusal (now (b .entry)) (shortPlan (now (listing .entry)) || shortGrid (now (placing .entry)))) (sheetOf (now (b .entry))) ⌝ }
-    ensures { λ _. ⌜ now (listing .exit) ≡ listingAfter (planRefusal (now (b .entry)) (shortPlan (now (listing .entry)) || shortGrid (now (placing .entry)))) (sheetOf (now (b .entry))) (now (listing .entry)) ⌝ }
-    ensures { λ _. ⌜ now (placing .exit) ≡ gridAfter (planRefusal (now (b .entry)) (shortPlan (now (listing .entry)) || shortGrid (now (placing .entry)))) (sheetOf (now (b .entry))) (now (placing .entry)) ⌝ }
+    ensures { λ r. ⌜ r ≡ listedAnswer (planRefusal (now (b .entry)) (shortPlan (now (listing .entry)) || shortGrid (now (placing .entry)))) (listingOf (alone (sheetOf (now (b .entry))))) ⌝ }
+    ensures { λ _. ⌜ now (listing .exit) ≡ listingAfter (planRefusal (now (b .entry)) (shortPlan (now (listing .entry)) || shortGrid (now (placing .entry)))) (listingOf (alone (sheetOf (now (b .entry))))) (now (listing .entry)) ⌝ }
+    ensures { λ _. ⌜ now (placing .exit) ≡ gridAfter (planRefusal (now (b .entry)) (shortPlan (now (listing .entry)) || shortGrid (now (placing .entry)))) (gridFor (alone (sheetOf (now (b .entry))))) (now (placing .entry)) ⌝ }
 {
-    let sheet = sheet::read(b);
-    if sheet.number != 0 {
-        return refuse(sheet.number, sheet.line);
-    }
-    if listing.len() < PLAN_BYTES {
-        return refuse(10, 0);
-    }
-    if placing.len() < GRID_BYTES {
-        return refuse(10, 0);
-    }
-    let day = day_of(sheet);
-    place_day(sheet, day, placing);
-    let length = list_day(sheet, day, listing);
-    Planned {
-        number: number_of(day.held),
-        line: 0,
-        length,
-    }
+    plan_both_of(sheet::read(b), listing, placing)
 }
 
 // Plans a sheet with no buffer lent: the number and the line alone.
 pub fn plan_number(b: &[u8]) -> Planned
     ensures { λ r. ⌜ r ≡ unlistedAnswer (planRefusal (now (b .entry)) false) ⌝ }
 {
-    let sheet = sheet::read(b);
-    if sheet.number != 0 {
-        return refuse(sheet.number, sheet.line);
-    }
-    let day = day_of(sheet);
-    refuse(number_of(day.held), 0)
+    plan_number_of(sheet::read(b))
 }

@@ -1,15 +1,19 @@
-// The planning calls and the comparison, for outsiders.
+// The planning calls, for outsiders.
 //
-// What each answers to a sheet's bytes, and what it leaves in the buffers lent to it, is stated in specs/Planning.antt.
-// What is demanded of these answers is in the crate `demands`.
+// What is planned is a problem (specs/Problem.antt); these calls plan a sheet alone, with every blower in every slot.
+// What each answers, and what it leaves in the buffers lent to it, is stated in specs/Planning.antt. What is demanded
+// of these answers is in the crate `demands`.
 mod calls;
-mod comparing;
 
 pub use calls::plan;
 pub use calls::plan_both;
 pub use calls::plan_number;
 pub use calls::plan_placing;
-pub use comparing::compare;
+
+// for the layers above: they ask for a reading
+pub use calls::day_of;
+pub use calls::plan_both_of;
+pub use calls::plan_of;
 
 // What a planning call answers: the length is that of the listing written, 0 where none is.
 #[repr(C)]
@@ -19,7 +23,7 @@ pub struct Planned {
     pub length: usize,
 }
 
-// What a comparison answers: whether the two sheets have the same day; no on a refusal.
+// What a comparison answers (crate `comparison`): whether the two sheets have the same day; no on a refusal.
 #[repr(C)]
 pub struct Compared {
     pub number: u32,

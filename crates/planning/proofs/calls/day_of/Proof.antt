@@ -1,5 +1,6 @@
 -- `planning::calls::day_of` meets its contract. Assumes nothing.
-use Rattle.planning.specs.SheetDays.{read-blowers, read-rations, day-found}
+use Rattle.placing.specs.ReadLaws.{sheet-read}
+use Rattle.planning.specs.DayLaws.{day-alone}
 use native.Mathlib.Omega.{arith}
 use borrow.Author.Needs.{needs}
 use Rattle.planning.proofs.calls.day_of.Statement.{statement}
@@ -9,16 +10,16 @@ cast-plan-day : tie.Need-cast-plan-day
 cast-plan-day c = search needs
 
 cast-plan-day-2 : tie.Need-cast-plan-day-2
-cast-plan-day-2 c = omega (arith, read-blowers (c .before .before .before .pre))
+cast-plan-day-2 c = let r = c .before .before .before .pre in omega (arith, sheet-read (r .some .read) (r .zero) .blown)
 
 cast-plan-day-3 : tie.Need-cast-plan-day-3
 cast-plan-day-3 c = search needs
 
 plan-day-requires : tie.Need-plan-day-requires
-plan-day-requires c κs = read-rations (c .before .before .before .before .before .pre)
+plan-day-requires c κs = let r = c .before .before .before .before .before .pre in sheet-read (r .some .read) (r .zero) .rations
 
 returns : tie.Need-returns
-returns c = λ b e z. day-found b e z (c .plan-day .ensures)
+returns c = λ own s h z. day-alone h z (c .plan-day .ensures)
 
 pub day-of-spec : {M : Type 1} → statement M
 day-of-spec =

@@ -1,5 +1,5 @@
 -- `planning::calls::place_day` meets its contract. Assumes nothing.
-use Rattle.planning.specs.SheetDays.{grid-can, grid-written, held-grid}
+use Rattle.planning.specs.DayLaws.{grid-can, grid-written, held-grid}
 use borrow.Author.Needs.{needs}
 use Rattle.planning.proofs.calls.place_day.Statement.{statement}
 use Rattle.planning.proofs.calls.place_day.Tie as tie
@@ -11,7 +11,7 @@ same-length : tie.Need-same-length
 same-length c = search needs
 
 returns : tie.Need-returns
-returns c = λ b h. held-grid h (c .before .before .before .before .if1 .taken) _ _ (c .before .before .clear-grid .ensures)
+returns c = λ p h. held-grid h (c .before .before .before .before .if1 .taken) _ _ (c .before .before .clear-grid .ensures)
 
 cast-put-grid : tie.Need-cast-put-grid
 cast-put-grid c = search needs
@@ -26,7 +26,7 @@ same-length-2 : tie.Need-same-length-2
 same-length-2 c = search needs
 
 returns-2 : tie.Need-returns-2
-returns-2 c = λ b h. grid-written h (c .before .before .before .before .before .before .before .before .if1 .left) _ _ (c .before .before .put-grid .ensures)
+returns-2 c = λ p h. grid-written h (c .before .before .before .before .before .before .before .before .if1 .left) _ _ (c .before .before .put-grid .ensures)
 
 pub place-day-spec : {M : Type 1} → statement M
 place-day-spec =

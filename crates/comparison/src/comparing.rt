@@ -1,6 +1,7 @@
 // The comparison of two sheets' days.
-use crate::Compared;
-use crate::calls::day_of;
+use checks::refusals::NO_PLACING;
+use planning::Compared;
+use planning::day_of;
 use sheet::Reading;
 use stretches::Day;
 ghost use mathlib.Core.Path.{_≡_};
@@ -8,9 +9,8 @@ ghost use mathlib.Core.Bool.{false};
 ghost use Prim.Native.Nat.{_≤_};
 ghost use lib.ListN.{length, take};
 ghost use Rattle.common.specs.Lists.{same};
 ghost use Rattle.planning.specs.Planning.{comparedOf};
-ghost use Rattle.planning.specs.SheetDays.{SomeSheetDay};
-ghost use Rattle.planning.specs.CompareSteps.{DaysCompared};
+ghost use Rattle.planning.specs.Contracts.{SomeDay, DaysCompared};
 
 // A refusal's answer: not the same.
 fn refuse_comparison(number: u32, line: u32) -> Compared
@@ -40,7 +40,7 @@ fn same_counts(slots: usize, one: &[u8; 96], other: &[u8; 96]) -> bool
 
 // Whether two planned days are the same: as many slots, and the same count in each.
 fn same_days(first: Reading, one: Day, second: Reading, other: Day) -> bool
-    requires { ⌜ SomeSheetDay first one × SomeSheetDay second other ⌝ }
+    requires { ⌜ SomeDay first one × SomeDay second other ⌝ }
     ensures { λ r. ⌜ DaysCompared first one second other «r» ⌝ }
 {
     if first.slots != second.slots {
@@ -62,7 +62,7 @@ pub fn compare(a: &[u8], b: &[u8]) -> Compared
     }
     let one = day_of(first);
     if one.held {
-        return refuse_comparison(12, 0);
+        return refuse_comparison(NO_PLACING, 0);
     }
     let second = sheet::read(b);
     if second.number != 0 {
@@ -70,7 +70,7 @@ pub fn compare(a: &[u8], b: &[u8]) -> Compared
     }
     let other = day_of(second);
     if other.held {
-        return refuse_comparison(12, 0);
+        return refuse_comparison(NO_PLACING, 0);
     }
     Compared {
         number: 0,

@@ -1,11 +1,11 @@
--- `planning::comparing::same_counts` meets its contract. Assumes nothing.
+-- `comparison::comparing::same_counts` meets its contract. Assumes nothing.
 use mathlib.Core.Path.{_≡_}
 use Prim.Native.Nat.{_≤_, _-_}
 use lib.ListN.{length}
-use Rattle.planning.specs.CompareSteps.{Agree, agree-begin, agree-next, same-agree, same-differ}
+use Rattle.comparison.specs.CompareSteps.{Agree, agree-begin, agree-next, same-agree, same-differ}
 use native.Mathlib.Omega.{arith}
-use Rattle.planning.proofs.comparing.same_counts.Statement.{statement}
-use Rattle.planning.proofs.comparing.same_counts.Tie as tie
+use Rattle.comparison.proofs.comparing.same_counts.Statement.{statement}
+use Rattle.comparison.proofs.comparing.same_counts.Tie as tie
 
 abbrev Inv-loop : tie.InvT-loop
 Inv-loop slots one other t₀ t = (t ≤ slots) × (slots ≤ 96) × (length one ≡ 96) × (length other ≡ 96) × Agree t one other

@@ -1,0 +1,2 @@
+-- The steps of the functions within the crate
+pub mod CompareSteps

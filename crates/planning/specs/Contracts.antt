@@ -1,0 +1,106 @@
+-- What the functions within the crate and those for the layers above require and ensure. Definitions only. Assumes
+-- nothing.
+use mathlib.Core.Path.{_≡_}
+use mathlib.Core.Bool.{Bool, true, false, not, _||_}
+use mathlib.Core.List.{List}
+use Prim.Native.Nat.{ℕ, _≤_, _<_}
+use lib.ListN.{length, getD, replicate}
+use Rattle.checks.specs.declared.Refusal.{Refusal}
+use Rattle.sheet.specs.declared.Reading.{Reading}
+use Rattle.checks.specs.Limits.{maxSlots}
+use Rattle.checks.specs.Refusals.{noPlacing}
+use Rattle.checks.specs.Sheet.{Sheet}
+use Rattle.sheet.specs.Calls.{accepted}
+use Rattle.common.specs.Buffers.{over}
+use Rattle.sheet.specs.OwnChecks.{ReadFrom, SomeReading}
+use Rattle.schedules.specs.Shortfall.{forced, capacity}
+use Rattle.schedules.specs.Tabulate.{tab}
+use Rattle.placing.specs.Represents.{marksOf}
+use Rattle.feedings.specs.CellChoice.{ScheduleWords}
+use Rattle.stretches.specs.declared.Day.{Day}
+use Rattle.listing.specs.Opening.{Written}
+use Rattle.planning.specs.declared.Planned.{Planned}
+use Rattle.planning.specs.Problem.{Problem, alone, left, room, ProblemInRange, canBePlanned, feedingsOf, countsOf, shownSet, listingOf, gridFor}
+use Rattle.planning.specs.Planning.{planRefusalFor, shortPlan, shortGrid, listedAnswer, unlistedAnswer, listingAfter, gridAfter, sameDay}
+
+-- The day of a problem ------------------------------------------------------------------------
+
+-- d is the day of problem p, whose sheet was read as r
+pub record DayOf (p : Problem) (r : Reading) (d : Day) : Type 0 where
+  pub in-range : ProblemInRange p
+  pub read : r ≡ accepted (p .sheet)
+  pub held : d .held ≡ not (canBePlanned p)
+  pub counts-long : length (d .counts) ≡ maxSlots
+  pub marks-long : length (d .marks) ≡ maxSlots
+  -- planned: the counts and the feedings
+  pub counted : d .held ≡ false → (t : ℕ) → t < p .sheet .slots → getD (d .counts) t 0 ≡ getD (countsOf p) t 0
+  pub fed : d .held ≡ false → ScheduleWords (length (p .sheet .jobs)) (p .sheet .slots) (feedingsOf p) (d .fed)
+  pub counts-past : d .held ≡ false → (t : ℕ) → p .sheet .slots ≤ t → getD (d .counts) t 0 ≡ 0
+  -- held: the slots shown, what is forced into them, and the sum of the room over them
+  pub shown : d .held ≡ true → shownSet p ≡ tab (p .sheet .slots) (marksOf (d .marks))
+  pub forced-in : d .held ≡ true → d .forced ≡ forced (left p) (shownSet p)
+  pub high-over : d .held ≡ true → d .capacity ≡ capacity (room p) (shownSet p)
+  -- .. and no count and no feeding
+  pub no-counts : d .held ≡ true → d .counts ≡ replicate maxSlots 0
+  pub no-fed : d .held ≡ true → d .fed ≡ replicate maxSlots 0
+
+-- d is the day of some problem over the sheet that was read
+pub record SomeDay (r : Reading) (d : Day) : Type 0 where
+  pub problem : Problem
+  pub day : DayOf problem r d
+
+-- 12 for a held day, 0 for a planned one
+abbrev pub NumberOf : Bool → ℕ
+NumberOf true = noPlacing
+NumberOf false = 0
+
+-- Finding it, and writing it ---------------------------------------------------------------------
+
+-- a sheet was read, and no check of it applied
+pub record ReadSheet (r : Reading) : Type 0 where
+  pub some : SomeReading r
+  pub zero : r .number ≡ 0
+
+-- d is the day of whatever sheet was read, planned alone
+abbrev pub DayFound : Reading → Day → Type 0
+DayFound r d = (own : List Refusal) (s : Sheet) → ReadFrom own s r → r .number ≡ 0 → DayOf (alone s) r d
+
+-- the listing of whatever problem it is the day of was written, and n is its length
+abbrev pub DayListed : Reading → Day → (old new : List ℕ) → ℕ → Type 0
+DayListed r d old new n = (p : Problem) → DayOf p r d → Written (listingOf p) old new n
+
+abbrev pub DayPlaced : Reading → Day → (old new : List ℕ) → Type 0
+DayPlaced r d old new = (p : Problem) → DayOf p r d → new ≡ over (gridFor p) old
+
+-- whether two planned days are the same, of whatever problems they are the days of
+abbrev pub DaysCompared : (r : Reading) (d : Day) (r′ : Reading) (d′ : Day) → Bool → Type 0
+DaysCompared r d r′ d′ x =
+    (p q : Problem) → DayOf p r d → DayOf q r′ d′ → d .held ≡ false → d′ .held ≡ false → x ≡ sameDay p q
+
+-- Planning a sheet that was read, whatever checks were made of it --------------------------------
+
+-- an answer and a plan buffer afterwards, at a refusal
+abbrev pub Listed : Refusal → (listing old new : List ℕ) → Planned → Type 0
+Listed f listing old new p = (p ≡ listedAnswer f listing) × (new ≡ listingAfter f listing old)
+
+-- with a plan buffer lent
+abbrev pub ReadListed : Reading → (old new : List ℕ) → Planned → Type 0
+ReadListed r old new p =
+    (own : List Refusal) (s : Sheet) → ReadFrom own s r → Listed (planRefusalFor own s (shortPlan old)) (listingOf (alone s)) old new p
+
+-- with a placing buffer lent
+abbrev pub ReadPlaced : Reading → (old new : List ℕ) → Planned → Type 0
+ReadPlaced r old new p =
+    (own : List Refusal) (s : Sheet) → ReadFrom own s r
+    → (p ≡ unlistedAnswer (planRefusalFor own s (shortGrid old))) × (new ≡ gridAfter (planRefusalFor own s (shortGrid old)) (gridFor (alone s)) old)
+
+-- with both
+abbrev pub ReadBoth : Reading → (old new old′ new′ : List ℕ) → Planned → Type 0
+ReadBoth r old new old′ new′ p =
+    (own : List Refusal) (s : Sheet) → ReadFrom own s r
+    → Listed (planRefusalFor own s (shortPlan old || shortGrid old′)) (listingOf (alone s)) old new p
+    × (new′ ≡ gridAfter (planRefusalFor own s (shortPlan old || shortGrid old′)) (gridFor (alone s)) old′)
+
+-- with none
+abbrev pub ReadNumbered : Reading → Planned → Type 0
+ReadNumbered r p = (own : List Refusal) (s : Sheet) → ReadFrom own s r → p ≡ unlistedAnswer (planRefusalFor own s false)
