@@ -1,1 +1,1 @@
-pub mod Flattened
+pub mod RecordsRead

@@ -3,9 +3,9 @@ use mathlib.Core.Path.{_≡_}
 use mathlib.Core.List.{List, map}
 use Prim.Native.Nat.{ℕ, zero, suc, _+_, _*_, _≤_}
 use lib.ListN.{length, getD, take, set, replicate}
-use Rattle.sheet.specs.Limits.{fields}
-use Rattle.sheet.specs.Sheet.{Sheet, numbersOf}
-use Rattle.sheet.specs.Calls.{padded, sheetFrom}
+use Rattle.line.specs.Layout.{fields}
+use Rattle.checks.specs.Sheet.{Sheet, numbersOf, sheetFrom}
+use Rattle.common.specs.Buffers.{padded}
 use Rattle.records.specs.declared.Ration.{Ration}
 use Rattle.records.specs.declared.Flat.{Flat}
 use Rattle.records.specs.Records.{jobOf, takenMost}

@@ -7,11 +7,11 @@ use native.Mathlib.Omega.{arith}
 use lib.ListN.{length, getD, take, drop, set, replicate, length-take, length-map, length-append, length-replicate}
 use lib.Seq.{take-suc, take-at, sets, sets-eq, drop-append-add, length-take-le}
 use Rattle.common.specs.ListLaws.{flatMap-append, drop-replicate}
-use Rattle.sheet.specs.Limits.{fields}
-use Rattle.sheet.specs.Sheet.{numbersOf, jobsOf}
-use Rattle.sheet.specs.Calls.{padded, sheetFrom}
-use Rattle.sheet.specs.NumbersLaws.{length-numbersOf, jobsOf-numbersOf}
-use Rattle.sheet.specs.ReadSteps.{length-padded}
+use Rattle.line.specs.Layout.{fields}
+use Rattle.checks.specs.Sheet.{numbersOf, jobsOf, sheetFrom}
+use Rattle.common.specs.Buffers.{padded}
+use Rattle.checks.specs.NumbersLaws.{length-numbersOf, jobsOf-numbersOf}
+use Rattle.common.specs.BufferLaws.{length-padded}
 use Rattle.records.specs.declared.Ration.{Ration}
 use Rattle.records.specs.Records.{jobOf, recordSheet, takenMost}
 use Rattle.records.specs.Flat.{flatOf, flatSheet, IsFlat, emptyFlat, added, noRation, takenTo}

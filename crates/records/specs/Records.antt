@@ -3,9 +3,9 @@ use mathlib.Core.Bool.{true}
 use mathlib.Core.List.{List, map}
 use Prim.Native.Nat.{ℕ}
 use lib.ListN.{length}
-use Rattle.sheet.specs.declared.Refusal.{Refusal}
-use Rattle.sheet.specs.Sheet.{Job, Sheet}
-use Rattle.sheet.specs.Checks.{valueFaults}
+use Rattle.checks.specs.declared.Refusal.{Refusal}
+use Rattle.checks.specs.Sheet.{Job, Sheet}
+use Rattle.checks.specs.Checks.{valueFaults}
 use Rattle.records.specs.declared.Ration.{Ration}
 
 -- the job that a record stands for

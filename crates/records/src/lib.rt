@@ -1,14 +1,15 @@
 // The calls for a caller who has the rations as a lent slice of records, not as a sheet's bytes.
 //
-// Each call takes the records apart into flat numbers, at most one more than a sheet may have, and hands them to a function over plain numbers. It answers
-// what the call of the layer below answers to the sheet that these records make (specs/Records.antt, specs/Calls.antt); the checks 1 and 2, which are about a
-// sheet's bytes, have nothing to look at.
+// Each call takes the records apart into flat numbers, at most one more than a sheet may have, reads these as a sheet,
+// and hands the reading to the function that the call on a sheet's bytes hands its own to. So it answers what that call
+// answers to the sheet that these records make (specs/Records.antt); the checks 1 and 2, which are about a sheet's
+// bytes, have nothing to look at.
 mod flats;
 mod plans;
 mod plans_both;
 mod question;
+mod readings;
 mod shortfalls;
-mod texts;
 mod writing;
 
 pub use plans::kiwimound_plan_rations;
@@ -31,12 +32,4 @@ pub struct Ration {
 struct Flat {
     pub count: usize,
     pub numbers: [u32; 260],
-}
-
-// The text of a sheet, at most 65 lines of it: number 0 and its length, at the front of the bytes; or the number and the line of the first refusal.
-struct Text {
-    pub number: u32,
-    pub line: u32,
-    pub length: usize,
-    pub bytes: [u8; 1365],
 }

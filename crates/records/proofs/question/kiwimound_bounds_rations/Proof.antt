@@ -1,6 +1,6 @@
--- `records::question::kiwimound_bounds_rations` meets its contract: a walk of its MIR, by hand, since the borrow checker covers no slice of structs. The records are flattened, and
--- `bounds_flat` is called on the numbers. Assumes nothing.
-use mathlib.Core.Path.{_≡_, refl, _∙_}
+-- `records::question::kiwimound_bounds_rations` meets its contract: a walk of its MIR, by hand, since the borrow checker covers no slice of structs. The records are read, and
+-- `questions::bounds_of` is called on the reading. Assumes nothing.
+use mathlib.Core.Path.{refl}
 use mathlib.Core.List.{List, [], _∷_}
 use Prim.Native.Nat.{ℕ, _<_, _^_}
 use lib.ListN.{length}
@@ -35,26 +35,25 @@ use denote.Triple.Statement.{Contract, Triple}
 use denote.Triple.Table.{entered, cited}
 use denote.Triple.Walked.{says, Stays, stay-none, stay-none-slice, walkOf, goes-none, goes-none-slice, Walks, ends-at, walked, walk-meets}
 use denote.Exit.{yes}
-use Rattle.records.specs.Calls.{boundsOfSheet}
-use Rattle.records.specs.QuestionSteps.{bounds-records}
 use Rattle.questions.specs.declared.BoundsAnswer.{BoundsAnswer}
-use Rattle.records.specs.Flat.{flatOf, flatSheet}
-use Rattle.records.specs.FlatLaws.{isFlat-flatOf}
+use Rattle.sheet.specs.declared.Reading.{Reading}
+use Rattle.questions.specs.BoundsParts.{ReadBounds}
+use Rattle.records.specs.Records.{recordSheet}
+use Rattle.records.specs.ReadSteps.{readingFor, records-read, some-records}
 use Rattle.records.specs.declared.Ration.{Ration}
-use Rattle.records.specs.declared.Flat.{Flat}
-use Rattle.records.proofs.Flattened.{Flatten, OwnRecords, flattens}
+use Rattle.records.proofs.RecordsRead.{ReadRations, OwnRecords, reads}
 use Rattle.records.proofs.Ration as R
-use Rattle.records.proofs.Flat as F
-use Rattle.records.proofs.Flat.Laws as F′
+use Rattle.sheet.proofs.Reading as G
+use Rattle.sheet.proofs.Reading.Laws as G′
 use Rattle.questions.proofs.BoundsAnswer as T
 use Rattle.questions.proofs.BoundsAnswer.Laws as T′
-use Rattle.records.proofs.flats.flatten.Symbol as flatten-def
-use Rattle.records.proofs.flats.flatten.Symbol.{name as #flatten}
-use Rattle.records.proofs.flats.flatten.Met as flatten-thm
-use Rattle.records.proofs.question.bounds_flat as bounds-flat
-use Rattle.records.proofs.question.bounds_flat.Symbol as bounds-flat-def
-use Rattle.records.proofs.question.bounds_flat.Symbol.{name as #bounds-flat}
-use Rattle.records.proofs.question.bounds_flat.Met as bounds-flat-thm
+use Rattle.records.proofs.readings.read_rations.Symbol as read-rations-def
+use Rattle.records.proofs.readings.read_rations.Symbol.{name as #read-rations}
+use Rattle.records.proofs.readings.read_rations.Met as read-rations-thm
+use Rattle.questions.proofs.bounds_of as bounds-of
+use Rattle.questions.proofs.bounds_of.Symbol as bounds-of-def
+use Rattle.questions.proofs.bounds_of.Symbol.{name as #bounds-of}
+use Rattle.questions.proofs.bounds_of.Met as bounds-of-thm
 use Rattle.records.proofs.question.kiwimound_bounds_rations.Key.{name as #bounds-rations}
 use Rattle.records.proofs.question.kiwimound_bounds_rations as bounds-rations
 use Rattle.records.proofs.question.kiwimound_bounds_rations.Statement as stated
@@ -63,9 +62,9 @@ use Rattle.records.proofs.question.kiwimound_bounds_rations.Code as cod
 abbrev stayed : Stays (bounds-rations.ended .signature .params) (bounds-rations.ended .kept)
 stayed = (stay-none (λ _. u32) yes, (stay-none (λ _. u32) yes, (stay-none (λ _. u32) yes, (stay-none-slice (0 ∷ []) tt (plain (λ _. R.the-row)) yes, (stay-none-slice (1 ∷ []) tt (plain (λ _. u32)) yes, (stay-none-slice (2 ∷ []) tt (plain (λ _. u32)) yes, tt))))))
 
--- the contract of the covered function that does the work
+-- the contract of the function that does the work
 abbrev Callee : {M : Type 1} (𝓤 : URA M) (H : Heap 𝓤) (A : Atoms 𝓤) (mem : Memory → SProp 𝓤) (run : Routine → Fun 𝓤) → Contract 𝓤
-Callee 𝓤 H A mem run = tripleOf 𝓤 H A bounds-flat.signature (bounds-flat.spec 𝓤 H A mem run)
+Callee 𝓤 H A mem run = tripleOf 𝓤 H A bounds-of.signature (bounds-of.spec 𝓤 H A mem run)
 
 module _ {M : Type 1} (𝓤 : URA M) (H : Heap 𝓤) (A : Atoms 𝓤) (W : Given 𝓤 H A) (mem : Memory → SProp 𝓤) (run : Routine → Fun 𝓤) (κ κ₁ κ₂ : Lft) (q q₁ q₂ : Share) (a b c : ℕ) (a-fits : a < 2 ^ 32) (b-fits : b < 2 ^ 32) (c-fits : c < 2 ^ 32) (p o : ℕ) (γ : GName) (ys : List Ration) (p₁ o₁ : ℕ) (γ₁ : GName) (ys₁ : List ℕ) (p₂ o₂ : ℕ) (γ₂ : GName) (ys₂ : List ℕ) where
   -- the lent slices, and the machine value of each
@@ -87,8 +86,9 @@ module _ {M : Type 1} (𝓤 : URA M) (H : Heap 𝓤) (A : Atoms 𝓤) (W : Given
   abbrev v₂ : Val
   v₂ = sliceVal (p₂, o₂) (length ys₂)
 
-  abbrev f : Flat
-  f = flatOf ys
+  -- what the records are read as
+  abbrev f : Reading
+  f = readingFor (recordSheet a b c ys)
 
   abbrev Post : Val → SProp 𝓤
   Post = walkOf 𝓤 H A bounds-rations.ended stayed (bounds-rations.clauses 𝓤 H A mem run) .post (((κ, (κ₁, (κ₂, tt))), (q, (q₁, (q₂, tt))), tt, (a, (b, (c, (s, (x₁, (x₂, tt)))))), (vint w32 a ∷ [], (vint w32 b ∷ [], (vint w32 c ∷ [], (v ∷ [], (v₁ ∷ [], (v₂ ∷ [], tt))))))), tt)
@@ -105,27 +105,25 @@ module _ {M : Type 1} (𝓤 : URA M) (H : Heap 𝓤) (A : Atoms 𝓤) (W : Given
 
   -- what the covered function is passed, and that it has what it asks
   abbrev passed : Val → Callee 𝓤 H A mem run .Ghost
-  passed u = (((κ₁, (κ₂, tt)), (q₁, (q₂, tt)), tt, (a, (b, (c, (f, (x₁, (x₂, tt)))))), (vint w32 a ∷ [], (vint w32 b ∷ [], (vint w32 c ∷ [], (u ∷ [], (v₁ ∷ [], (v₂ ∷ [], tt))))))), tt)
+  passed u = (((κ₁, (κ₂, tt)), (q₁, (q₂, tt)), tt, (f, (x₁, (x₂, tt))), (u ∷ [], (v₁ ∷ [], (v₂ ∷ [], tt)))), tt)
 
-  goes : (u : Val) → ent 𝓤 (⋆ 𝓤 H A ((‵ (flft κ₁ q₁) ⊛ ‵ (flft κ₂ q₂) ⊛ ‵ ftrue) ∷ ‵ (fsep (F.the-row .own f (u ∷ [])) (fsep Own₁ (fsep Own₂ ftrue))) ∷ [])) (Callee 𝓤 H A mem run .pre (passed u))
+  goes : (u : Val) → ent 𝓤 (⋆ 𝓤 H A ((‵ (flft κ₁ q₁) ⊛ ‵ (flft κ₂ q₂) ⊛ ‵ ftrue) ∷ ‵ (fsep (G.the-row .own f (u ∷ [])) (fsep Own₁ (fsep Own₂ ftrue))) ∷ [])) (Callee 𝓤 H A mem run .pre (passed u))
   goes u =
-      qed W ((‵ (flft κ₁ q₁) ⊛ ‵ (flft κ₂ q₂) ⊛ ‵ ftrue) ∷ ‵ (fsep (F.the-row .own f (u ∷ [])) (fsep Own₁ (fsep Own₂ ftrue))) ∷ []) ∵ says ! (isFlat-flatOf ys) $ frame ! $
-      owned ! u32 (Is u32) (uint-makes 𝓤 H A W w32) c _ (refl, c-fits) $ fjoin ! $ owned ! u32 (Is u32) (uint-makes 𝓤 H A W w32) b _ (refl, b-fits) $ fjoin ! $
-      owned ! u32 (Is u32) (uint-makes 𝓤 H A W w32) a _ (refl, a-fits) $ fjoin ! $ done !
+      qed W ((‵ (flft κ₁ q₁) ⊛ ‵ (flft κ₂ q₂) ⊛ ‵ ftrue) ∷ ‵ (fsep (G.the-row .own f (u ∷ [])) (fsep Own₁ (fsep Own₂ ftrue))) ∷ []) ∵ says ! (some-records (recordSheet a b c ys)) $ frame ! $ done !
 
   -- the callee's promise
   abbrev Said : BoundsAnswer → Type 0
-  Said r = r ≡ boundsOfSheet (flatSheet a b c f) ys₁ ys₂
+  Said r = ReadBounds f ys₁ ys₂ r
 
   exits : (r : BoundsAnswer) (w : Val) → Said r → ent 𝓤 (⋆ 𝓤 H A (‵ (T.the-row .own r (w ∷ [])) ∷ (‵ (flft κ₁ q₁) ⊛ ‵ (flft κ₂ q₂) ⊛ ‵ ftrue) ∷ (‵ (flft κ q) ⊛ ‵ ftrue) ∷ ‵ Own ∷ ‵ Own₁ ∷ ‵ Own₂ ∷ [])) (Post w)
   exits r w e =
       qed W (‵ (T.the-row .own r (w ∷ [])) ∷ (‵ (flft κ₁ q₁) ⊛ ‵ (flft κ₂ q₂) ⊛ ‵ ftrue) ∷ (‵ (flft κ q) ⊛ ‵ ftrue) ∷ ‵ Own ∷ ‵ Own₁ ∷ ‵ Own₂ ∷ []) ∵
-      suffices ! _ (ends-at 𝓤 H A bounds-rations.ended stayed (bounds-rations.clauses 𝓤 H A mem run) W (((κ, (κ₁, (κ₂, tt))), (q, (q₁, (q₂, tt))), tt, (a, (b, (c, (s, (x₁, (x₂, tt)))))), (vint w32 a ∷ [], (vint w32 b ∷ [], (vint w32 c ∷ [], (v ∷ [], (v₁ ∷ [], (v₂ ∷ [], tt))))))), tt) w r (tt, (tt, (tt, (tt, (tt, (tt, tt)))))) (tt, (tt, (tt, (tt, (tt, (tt, tt))))))) $ says ! (e ∙ bounds-records a b c ys ys₁ ys₂) $
+      suffices ! _ (ends-at 𝓤 H A bounds-rations.ended stayed (bounds-rations.clauses 𝓤 H A mem run) W (((κ, (κ₁, (κ₂, tt))), (q, (q₁, (q₂, tt))), tt, (a, (b, (c, (s, (x₁, (x₂, tt)))))), (vint w32 a ∷ [], (vint w32 b ∷ [], (vint w32 c ∷ [], (v ∷ [], (v₁ ∷ [], (v₂ ∷ [], tt))))))), tt) w r (tt, (tt, (tt, (tt, (tt, (tt, tt)))))) (tt, (tt, (tt, (tt, (tt, (tt, tt))))))) $ says ! (e _ _ (records-read (recordSheet a b c ys))) $
       move ! (2 ∷ []) $ split ! $ move ! (0 ∷ 3 ∷ []) $ join ! $ frame ! $ move ! (4 ∷ 0 ∷ []) $ fjoin ! $ move ! (3 ∷ 0 ∷ []) $ fjoin ! $ move ! (2 ∷ 0 ∷ []) $ fjoin ! $
       owned ! u32 (Is u32) (uint-makes 𝓤 H A W w32) c _ (refl, c-fits) $ fjoin ! $ owned ! u32 (Is u32) (uint-makes 𝓤 H A W w32) b _ (refl, b-fits) $ fjoin ! $
       owned ! u32 (Is u32) (uint-makes 𝓤 H A W w32) a _ (refl, a-fits) $ fjoin ! $ done !
 
-  module _ (C : Calls 𝓤 H) (Λ : Loops 𝓤 H) (fm : FmC 𝓤 H (W .laws) C) (known-flatten : Triple 𝓤 (C #flatten) (Flatten 𝓤 H A mem run)) (known : Triple 𝓤 (C #bounds-flat) (Callee 𝓤 H A mem run)) where
+  module _ (C : Calls 𝓤 H) (Λ : Loops 𝓤 H) (fm : FmC 𝓤 H (W .laws) C) (known-read : Triple 𝓤 (C #read-rations) (ReadRations 𝓤 H A mem run)) (known : Triple 𝓤 (C #bounds-of) (Callee 𝓤 H A mem run)) where
     walk : Is (ShrSlice (named 0) κ R.the-row) s (v ∷ []) → Room u32 (length ys₁) → Room u32 (length ys₂) → ent 𝓤 (onEntry 𝓤 H A bounds-rations.signature (κ, (κ₁, (κ₂, tt))) (q, (q₁, (q₂, tt))) (a, (b, (c, (s, (x₁, (x₂, tt)))))) (vint w32 a ∷ [], (vint w32 b ∷ [], (vint w32 c ∷ [], (v ∷ [], (v₁ ∷ [], (v₂ ∷ [], tt)))))))
         (WpFn 𝓤 H C Λ code.function (vint w32 a ∷ vint w32 b ∷ vint w32 c ∷ v ∷ v₁ ∷ v₂ ∷ []) Post)
     walk is₀ room₁ room₂ =
@@ -134,13 +132,13 @@ module _ {M : Type 1} (𝓤 : URA M) (H : Heap 𝓤) (A : Atoms 𝓤) (W : Given
         pass1 ! (init ! 12 refl (tt, record { fits = a-fits })) $ pass1 ! (init ! 10 refl (tt, record { fits = b-fits })) $ pass1 ! (init ! 8 refl (tt, record { fits = c-fits })) $ pass1 ! (init ! 6 refl (shr-slice-lawful 𝓤 H A W (named 0) κ R.the-row .typed s (v ∷ []) is₀ .0)) $ pass1 ! (init ! 4 refl (tt, (tt, (record { fits = room₁ .0 }, tt)))) $ pass1 ! (init ! 2 refl (tt, (tt, (record { fits = room₂ .0 }, tt)))) $ pass0 ! $
         -- the tokens and what is lent are taken apart; what a `&` owns is had twice, once for the exit
         move ! (16 ∷ []) $ split ! $ move ! (18 ∷ []) $ fsplit ! $ drop ! $ fsplit ! $ drop ! $ fsplit ! $ drop ! $ fsplit ! $ use1 W (‵ Own ⊛ ‵ Own) (shr-slice-copy 𝓤 H A W (named 0) κ R.the-row .twice s (v ∷ [])) $ split ! $ move ! (2 ∷ []) $ fsplit ! $ use1 W (‵ Own₁ ⊛ ‵ Own₁) (shr-slice-copy 𝓤 H A W (named 1) κ₁ u32 .twice x₁ (v₁ ∷ [])) $ split ! $ move ! (2 ∷ []) $ fsplit ! $ use1 W (‵ Own₂ ⊛ ‵ Own₂) (shr-slice-copy 𝓤 H A W (named 2) κ₂ u32 .twice x₂ (v₂ ∷ [])) $ split ! $ move ! (2 ∷ []) $ move ! (2 ∷ 0 ∷ []) $ fjoin ! $ move ! (3 ∷ 0 ∷ []) $ fjoin ! $ nothing ! $ move ! (6 ∷ 0 ∷ []) $ join ! $ move ! (0 ∷ 5 ∷ []) $
-        flattens W mem run κ q s ! fm known-flatten (and-then ! (load ! (from ! (stop !)) (look ! 12 refl)) (no-more !)) (λ u is.
-        land ! (from ! (stop !)) (init ! 7 refl (LL.lawful F.the-type F′.the-laws 𝓤 H A W .typed f _ is .0)) $
+        reads W mem run κ q a b c a-fits b-fits c-fits s ! fm known-read (and-then ! (load ! (from ! (stop !)) (look ! 18 refl)) (and-then ! (load ! (from ! (stop !)) (look ! 16 refl)) (and-then ! (load ! (from ! (stop !)) (look ! 14 refl)) (and-then ! (load ! (from ! (stop !)) (look ! 12 refl)) (no-more !))))) (λ u is.
+        land ! (from ! (stop !)) (init ! 7 refl (LL.lawful G.the-type G′.the-laws 𝓤 H A W .typed f _ is .0)) $
         move ! (0 ∷ 2 ∷ []) $ fjoin ! $ move ! (5 ∷ 0 ∷ []) $ use2 W (raw (Callee 𝓤 H A mem run .pre (passed u))) (goes u) $
-        calls-at ! fm (Callee 𝓤 H A mem run) known (passed u) (and-then ! (load ! (from ! (stop !)) (look ! 17 refl)) (and-then ! (load ! (from ! (stop !)) (look ! 15 refl)) (and-then ! (load ! (from ! (stop !)) (look ! 13 refl)) (and-then ! (load ! (from ! (stop !)) (look ! 5 refl)) (and-then ! (load ! (from ! (stop !)) (look ! 9 refl)) (and-then ! (load ! (from ! (stop !)) (look ! 7 refl)) (no-more !))))))) (λ w.
-        use1 W (later (some (λ (r : BoundsAnswer). ((‵ (flft κ₁ q₁) ⊛ ‵ (flft κ₂ q₂) ⊛ ‵ ftrue) ⊛ ‵ (T.the-row .own r (w ∷ []))) ⊛ raw (ensured 𝓤 H A bounds-flat.ended (bounds-flat.clauses 𝓤 H A mem run) (κ₁, (κ₂, tt)) (a, (b, (c, (f, (x₁, (x₂, tt)))))) tt r)))) (id⊢ 𝓤 _) $ await ! tt $ pick ! (λ r.
-        split ! $ move ! (1 ∷ []) $ use1 W (some (λ (zs : Lasts bounds-flat.ended (κ₁, (κ₂, tt)) (a, (b, (c, (f, (x₁, (x₂, tt))))))). ‵ (lasts bounds-flat.ended (κ₁, (κ₂, tt)) (a, (b, (c, (f, (x₁, (x₂, tt)))))) zs) ⊛ raw (fact 𝓤 (Said r)))) (id⊢ 𝓤 _) $ pick ! (λ zs.
-        split ! $ move ! (1 ∷ []) $ heard ! (Said r) (λ e. fsplit ! $ drop ! $ fsplit ! $ drop ! $ fsplit ! $ drop ! $ fsplit ! $ drop ! $ fsplit ! $ drop ! $ fsplit ! $ drop ! $ drop ! $
+        calls-at ! fm (Callee 𝓤 H A mem run) known (passed u) (and-then ! (load ! (from ! (stop !)) (look ! 5 refl)) (and-then ! (load ! (from ! (stop !)) (look ! 9 refl)) (and-then ! (load ! (from ! (stop !)) (look ! 7 refl)) (no-more !)))) (λ w.
+        use1 W (later (some (λ (r : BoundsAnswer). ((‵ (flft κ₁ q₁) ⊛ ‵ (flft κ₂ q₂) ⊛ ‵ ftrue) ⊛ ‵ (T.the-row .own r (w ∷ []))) ⊛ raw (ensured 𝓤 H A bounds-of.ended (bounds-of.clauses 𝓤 H A mem run) (κ₁, (κ₂, tt)) (f, (x₁, (x₂, tt))) tt r)))) (id⊢ 𝓤 _) $ await ! tt $ pick ! (λ r.
+        split ! $ move ! (1 ∷ []) $ use1 W (some (λ (zs : Lasts bounds-of.ended (κ₁, (κ₂, tt)) (f, (x₁, (x₂, tt)))). ‵ (lasts bounds-of.ended (κ₁, (κ₂, tt)) (f, (x₁, (x₂, tt))) zs) ⊛ raw (fact 𝓤 (Said r)))) (id⊢ 𝓤 _) $ pick ! (λ zs.
+        split ! $ move ! (1 ∷ []) $ heard ! (Said r) (λ e. fsplit ! $ drop ! $ fsplit ! $ drop ! $ fsplit ! $ drop ! $ drop ! $
         split ! $ move ! (1 ∷ []) $ peeks ! T.the-row (Is T.the-row) (shows 𝓤 H A T.the-row) r (w ∷ []) (λ is′.
         land ! (from ! (stop !)) (init ! 20 refl (LL.lawful T.the-type T′.the-laws 𝓤 H A W .typed r _ is′ .0)) $ returns ! (look ! 20 refl) $
         forget ! 6 refl $ forget ! 8 refl $ forget ! 10 refl $ forget ! 12 refl $ forget ! 14 refl $ forget ! 16 refl $ forget ! 18 refl $ forget ! 20 refl $
@@ -148,12 +146,12 @@ module _ {M : Type 1} (𝓤 : URA M) (H : Heap 𝓤) (A : Atoms 𝓤) (W : Given
         move ! (0 ∷ 1 ∷ 2 ∷ 5 ∷ 4 ∷ 3 ∷ []) $ by ! (exits r w e)))))))))))))))
 
 module _ {M : Type 1} (𝓤 : URA M) (H : Heap 𝓤) (A : Atoms 𝓤) (W : Given 𝓤 H A) (mem : Memory → SProp 𝓤) (run : Routine → Fun 𝓤) (𝓣 : Tables 𝓤 H)
-    (known-flatten : Triple 𝓤 (𝓣 .C #flatten) (Flatten 𝓤 H A mem run)) (known : Triple 𝓤 (𝓣 .C #bounds-flat) (Callee 𝓤 H A mem run)) where
+    (known-read : Triple 𝓤 (𝓣 .C #read-rations) (ReadRations 𝓤 H A mem run)) (known : Triple 𝓤 (𝓣 .C #bounds-of) (Callee 𝓤 H A mem run)) where
   walks : Walks 𝓤 H A bounds-rations.ended stayed (WpFn 𝓤 H (𝓣 .C) (𝓣 .Λ) code.function) (bounds-rations.clauses 𝓤 H A mem run)
   walks = walked 𝓤 H A bounds-rations.ended stayed (bounds-rations.clauses 𝓤 H A mem run) (WpFn 𝓤 H (𝓣 .C) (𝓣 .Λ) code.function) (λ κs. (uint-vals w32, (uint-vals w32, (uint-vals w32, (slice-vals, (slice-vals, (slice-vals, tt)))))))
       (λ κs. (uint-tells w32, (uint-tells w32, (uint-tells w32, (shr-slice-tells (named 0) (κs .0) R.the-row, (shr-slice-tells (named 1) (κs .1 .0) u32, (shr-slice-tells (named 2) (κs .1 .1 .0) u32, tt)))))))
       (λ κs qs bounds a g are. via 𝓤 _ (fst∗ 𝓤 _ (emp 𝓤)) (walk 𝓤 H A W mem run (κs .0) (κs .1 .0) (κs .1 .1 .0) (qs .0) (qs .1 .0) (qs .1 .1 .0) (a .0) (a .1 .0) (a .1 .1 .0) (are .0 .1) (are .1 .0 .1) (are .1 .1 .0 .1) (a .1 .1 .1 .0 .ptr .0) (a .1 .1 .1 .0 .ptr .1) (a .1 .1 .1 .0 .name) (a .1 .1 .1 .0 .now) (a .1 .1 .1 .1 .0 .ptr .0) (a .1 .1 .1 .1 .0 .ptr .1) (a .1 .1 .1 .1 .0 .name) (a .1 .1 .1 .1 .0 .now) (a .1 .1 .1 .1 .1 .0 .ptr .0) (a .1 .1 .1 .1 .1 .0 .ptr .1) (a .1 .1 .1 .1 .1 .0 .name) (a .1 .1 .1 .1 .1 .0 .now)
-      (𝓣 .C) (𝓣 .Λ) (fmOf 𝓤 H (W .laws) 𝓣) known-flatten known (are .1 .1 .1 .0) (are .1 .1 .1 .1 .0 .0 .1) (are .1 .1 .1 .1 .1 .0 .0 .1)))
+      (𝓣 .C) (𝓣 .Λ) (fmOf 𝓤 H (W .laws) 𝓣) known-read known (are .1 .1 .1 .0) (are .1 .1 .1 .1 .0 .0 .1) (are .1 .1 .1 .1 .1 .0 .0 .1)))
 
   meets : Meets 𝓤 H A bounds-rations.signature (WpFn 𝓤 H (𝓣 .C) (𝓣 .Λ) code.function) (bounds-rations.spec 𝓤 H A mem run)
   meets = walk-meets 𝓤 H A bounds-rations.ended stayed W (goes-none 𝓤 H A W 3 (λ _. u32) yes (λ κs x f. refl), (goes-none 𝓤 H A W 3 (λ _. u32) yes (λ κs x f. refl), (goes-none 𝓤 H A W 3 (λ _. u32) yes (λ κs x f. refl), (goes-none-slice 𝓤 H A W 3 (0 ∷ []) tt (plain (λ _. R.the-row)) yes, (goes-none-slice 𝓤 H A W 3 (1 ∷ []) tt (plain (λ _. u32)) yes, (goes-none-slice 𝓤 H A W 3 (2 ∷ []) tt (plain (λ _. u32)) yes, tt))))))
@@ -165,5 +163,5 @@ kiwimound-bounds-rations-spec 𝓤 H 𝓜 𝓖 𝓡 =
     entered 𝓤 H (tripleOf 𝓤 H (𝓖 .A) bounds-rations.signature (bounds-rations.spec 𝓤 H (𝓖 .A) (𝓜 .mem) (𝓡 .run)))
     (tables 𝓤 H 𝓜 𝓡 code.env .C) (tables 𝓤 H 𝓜 𝓡 code.env .Λ) #bounds-rations code.function (code.unfolded 𝓤 H 𝓜 𝓡)
     (meets 𝓤 H (𝓖 .A) (givenOf 𝓤 H 𝓜 𝓖) (𝓜 .mem) (𝓡 .run) (tablesOf 𝓤 H 𝓜 (tables 𝓤 H 𝓜 𝓡 code.env))
-    (cited 𝓤 H (Flatten 𝓤 H (𝓖 .A) (𝓜 .mem) (𝓡 .run)) 𝓜 𝓡 code.env #flatten flatten-def.routine code.calls-records·flats·flatten (flatten-thm.met 𝓤 H 𝓜 𝓖 𝓡))
-    (cited 𝓤 H (Callee 𝓤 H (𝓖 .A) (𝓜 .mem) (𝓡 .run)) 𝓜 𝓡 code.env #bounds-flat bounds-flat-def.routine code.calls-records·question·bounds-flat (bounds-flat-thm.met 𝓤 H 𝓜 𝓖 𝓡)))
+    (cited 𝓤 H (ReadRations 𝓤 H (𝓖 .A) (𝓜 .mem) (𝓡 .run)) 𝓜 𝓡 code.env #read-rations read-rations-def.routine code.calls-records·readings·read-rations (read-rations-thm.met 𝓤 H 𝓜 𝓖 𝓡))
+    (cited 𝓤 H (Callee 𝓤 H (𝓖 .A) (𝓜 .mem) (𝓡 .run)) 𝓜 𝓡 code.env #bounds-of bounds-of-def.routine code.calls-questions·bounds-of (bounds-of-thm.met 𝓤 H 𝓜 𝓖 𝓡)))
