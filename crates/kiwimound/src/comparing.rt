@@ -1,4 +1,4 @@
-// The comparison of `planning`.
+// The comparison of two sheets.
 use planning::Compared;
 ghost use mathlib.Core.Path.{_≡_};
 ghost use Rattle.planning.specs.Planning.{comparedOf};
@@ -8,5 +8,5 @@ ghost use Rattle.planning.specs.Planning.{comparedOf};
 pub extern "C" fn kiwimound_compare(a: &[u8], b: &[u8]) -> Compared
     ensures { λ r. ⌜ r ≡ comparedOf (now (a .entry)) (now (b .entry)) ⌝ }
 {
-    planning::compare(a, b)
+    comparison::compare(a, b)
 }

@@ -2,14 +2,15 @@
 use planning::Planned;
 ghost use mathlib.Core.Path.{_≡_};
 ghost use mathlib.Core.Bool.{false, _||_};
-ghost use Rattle.sheet.specs.Sheet.{sheetOf};
+ghost use Rattle.checks.specs.Sheet.{sheetOf};
+ghost use Rattle.planning.specs.Problem.{alone, listingOf, gridFor};
 ghost use Rattle.planning.specs.Planning.{planRefusal, shortPlan, shortGrid, listedAnswer, unlistedAnswer, listingAfter, gridAfter};
 
 // Plans a sheet, with a plan buffer lent.
 #[no_mangle]
 pub extern "C" fn kiwimound_plan(b: &[u8], listing: &mut [u8]) -> Planned
-    ensures { λ r. ⌜ r ≡ listedAnswer (planRefusal (now (b .entry)) (shortPlan (now (listing .entry)))) (sheetOf (now (b .entry))) ⌝ }
-    ensures { λ _. ⌜ now (listing .exit) ≡ listingAfter (planRefusal (now (b .entry)) (shortPlan (now (listing .entry)))) (sheetOf (now (b .entry))) (now (listing .entry)) ⌝ }
+    ensures { λ r. ⌜ r ≡ listedAnswer (planRefusal (now (b .entry)) (shortPlan (now (listing .entry)))) (listingOf (alone (sheetOf (now (b .entry))))) ⌝ }
+    ensures { λ _. ⌜ now (listing .exit) ≡ listingAfter (planRefusal (now (b .entry)) (shortPlan (now (listing .entry)))) (listingOf (alone (sheetOf (now (b .entry))))) (now (listing .entry)) ⌝ }
 {
     planning::plan(b, listing)
 }
@@ -18,7 +19,7 @@ pub extern "C" fn kiwimound_plan(b: &[u8], listing: &mut [u8]) -> Planned
 #[no_mangle]
 pub extern "C" fn kiwimound_plan_placing(b: &[u8], placing: &mut [u8]) -> Planned
     ensures { λ r. ⌜ r ≡ unlistedAnswer (planRefusal (now (b .entry)) (shortGrid (now (placing .entry)))) ⌝ }
-    ensures { λ _. ⌜ now (placing .exit) ≡ gridAfter (planRefusal (now (b .entry)) (shortGrid (now (placing .entry)))) (sheetOf (now (b .entry))) (now (placing .entry)) ⌝ }
+    ensures { λ _. ⌜ now (placing .exit) ≡ gridAfter (planRefusal (now (b .entry)) (shortGrid (now (placing .entry)))) (gridFor (alone (sheetOf (now (b .entry))))) (now (placing .entry)) ⌝ }
 {
     planning::plan_placing(b, placing)
 }
@@ -26,9 +27,9 @@ pub extern "C" fn kiwimound_plan_placing(b: &[u8], placing: &mut [u8]) -> Planne
 // Plans a sheet, with both buffers lent.
 #[no_mangle]
 pub extern "C" fn kiwimound_plan_both(b: &[u8], listing: &mut [u8], placing: &mut [u8]) -> Planned
-    ensures { λ r. ⌜ r ≡ listedAnswer (planRefusal (now (b .entry)) (shortPlan (now (listing .entry)) || shortGrid (now (placing .entry)))) (sheetOf (now (b .entry))) ⌝ }
-    ensures { λ _. ⌜ now (listing .exit) ≡ listingAfter (planRefusal (now (b .entry)) (shortPlan (now (listing .entry)) || shortGrid (now (placing .entry)))) (sheetOf (now (b .entry))) (now (listing .entry)) ⌝ }
-    ensures { λ _. ⌜ now (placing .exit) ≡ gridAfter (planRefusal (now (b .entry)) (shortPlan (now (listing .entry)) || shortGrid (now (placing .entry)))) (sheetOf (now (b .entry))) (now (placing .entry)) ⌝ }
+    ensures { λ r. ⌜ r ≡ listedAnswer (planRefusal (now (b .entry)) (shortPlan (now (listing .entry)) || shortGrid (now (placing .entry)))) (listingOf (alone (sheetOf (now (b .entry))))) ⌝ }
+    ensures { λ _. ⌜ now (listing .exit) ≡ listingAfter (planRefusal (now (b .entry)) (shortPlan (now (listing .entry)) || shortGrid (now (placing .entry)))) (listingOf (alone (sheetOf (now (b .entry))))) (now (listing .entry)) ⌝ }
+    ensures { λ _. ⌜ now (placing .exit) ≡ gridAfter (planRefusal (now (b .entry)) (shortPlan (now (listing .entry)) || shortGrid (now (placing .entry)))) (gridFor (alone (sheetOf (now (b .entry))))) (now (placing .entry)) ⌝ }
 {
     planning::plan_both(b, listing, placing)
 }

@@ -1,12 +1,15 @@
-// The calls of `sheet`. A look-up answers where the lines are, because a part of a slice can't be handed over to C.
-use sheet::Part;
+// The calls of `sheet` and `lookup`. A look-up answers where the lines are, because a part of a slice can't be handed
+// over to C.
+use lookup::Part;
 use sheet::Reading;
 use sheet::Written;
 ghost use mathlib.Core.Path.{_≡_};
 ghost use Prim.Native.Nat.{_+_};
 ghost use lib.ListN.{length};
 ghost use Rattle.common.specs.Lists.{part};
-ghost use Rattle.sheet.specs.Calls.{sheetFrom, readingOf, writeRefusal, writtenOf, bufferAfter, lookUp, placeOf};
+ghost use Rattle.sheet.specs.Calls.{readingOf, writeRefusal, writtenOf, bufferAfter};
+ghost use Rattle.checks.specs.Sheet.{sheetFrom};
+ghost use Rattle.lookup.specs.LookUp.{lookUp, placeOf};
 
 // Reads the bytes of a sheet.
 #[no_mangle]
@@ -40,5 +43,5 @@ pub extern "C" fn kiwimound_find(b: &[u8], tank: u32) -> Part
     ensures { λ r. ⌜ r ≡ placeOf (now (b .entry)) tank ⌝ }
     ensures { λ r. ⌜ part (r .start) (r .start + r .length) (now (b .entry)) ≡ lookUp (now (b .entry)) tank ⌝ }
 {
-    sheet::place(b, tank)
+    lookup::place(b, tank)
 }

@@ -6,22 +6,24 @@ use Prim.Native.Nat.{ℕ, zero, suc, _≤_}
 use native.Mathlib.Omega.{arith}
 use lib.ListN.{length, replicate, length-replicate}
 use Rattle.common.specs.ListLaws.{drop-replicate}
-use Rattle.sheet.specs.declared.Refusal.{Refusal}
-use Rattle.sheet.specs.Sheet.{sheetOf}
-use Rattle.sheet.specs.Checks.{faults}
-use Rattle.sheet.specs.Calls.{readingOf, padded, over}
+use Rattle.checks.specs.declared.Refusal.{Refusal}
+use Rattle.checks.specs.Sheet.{sheetOf}
+use Rattle.checks.specs.Checks.{faults}
+use Rattle.sheet.specs.Calls.{readingOf}
+use Rattle.common.specs.Buffers.{padded, over}
 use Rattle.sheet.specs.CallLaws.{faults-readingOf}
-use Rattle.sheet.specs.ReadSteps.{length-padded}
-use Rattle.sheet.specs.WellFormedLaws.{wellFormed-faults}
-use Rattle.listing.specs.Sizes.{planBytes}
-use Rattle.listing.specs.Text.{refusalText}
+use Rattle.common.specs.BufferLaws.{length-padded}
+use Rattle.checks.specs.WellFormedLaws.{wellFormed-faults}
+use Rattle.sheet.specs.OwnCheckLaws.{bytes-read, refused-before, not-held}
+use Rattle.plan_lines.specs.Sizes.{planBytes}
+use Rattle.plan_lines.specs.Text.{refusalText}
 use Rattle.listing.specs.Opening.{Written, length-refusalText}
 use Rattle.planning.specs.declared.Planned.{Planned}
-use Rattle.planning.specs.Planning.{planRefusal, shortPlan, writes, listedAnswer, listingAfter, listingOf}
-use Rattle.planning.specs.NumberLaws.{number-read, silent-read}
-use Rattle.planning.specs.CallAnswers.{room-plan}
-use Rattle.planning.specs.WrittenLaws.{length-listing}
-use Rattle.planning.specs.Refusals.{refusal-read}
+use Rattle.planning.specs.Problem.{alone, listingOf}
+use Rattle.planning.specs.Planning.{heldFaults, planRefusal, shortPlan, writes, listedAnswer, listingAfter}
+use Rattle.planning.specs.CallAnswers.{room-plan, writes-nothing}
+use Rattle.planning.specs.ProblemLaws.{length-listing}
+use Rattle.planning.specs.AloneLaws.{alone-in-range}
 use Rattle.program.specs.declared.Output.{Output}
 use Rattle.program.specs.Program.{output, outputOf}
 
@@ -43,19 +45,22 @@ as-output b text bytes n e w l = λ i. record { bytes = (w ∙ over-zeros text �
 
 -- what `plan` answered and left in the buffer
 module _
-    (b bytes : List ℕ) (p : Planned) (e : p ≡ listedAnswer (planRefusal b (shortPlan zeros)) (sheetOf b))
-    (w : bytes ≡ listingAfter (planRefusal b (shortPlan zeros)) (sheetOf b) zeros) where
+    (b bytes : List ℕ) (p : Planned) (e : p ≡ listedAnswer (planRefusal b (shortPlan zeros)) (listingOf (alone (sheetOf b))))
+    (w : bytes ≡ listingAfter (planRefusal b (shortPlan zeros)) (listingOf (alone (sheetOf b))) zeros) where
+  abbrev listing : List ℕ
+  listing = listingOf (alone (sheetOf b))
+
   abbrev f : Refusal
   f = planRefusal b false
 
   room : shortPlan zeros ≡ false
   room = room-plan zeros (omega (arith, length-zeros))
 
-  answered : p ≡ listedAnswer f (sheetOf b)
-  answered = e ∙ ap (λ x. listedAnswer (planRefusal b x) (sheetOf b)) room
+  answered : p ≡ listedAnswer f listing
+  answered = e ∙ ap (λ x. listedAnswer (planRefusal b x) listing) room
 
-  after : bytes ≡ listingAfter f (sheetOf b) zeros
-  after = w ∙ ap (λ x. listingAfter (planRefusal b x) (sheetOf b) zeros) room
+  after : bytes ≡ listingAfter f listing zeros
+  after = w ∙ ap (λ x. listingAfter (planRefusal b x) listing zeros) room
 
   number-is : p .number ≡ f .number
   unfolding listedAnswer
@@ -68,7 +73,7 @@ module _
   -- a listing was written
   pub output-listed : writes (p .number) ≡ true → record { bytes = bytes; length = p .length } ≡ outputOf b
   unfolding listedAnswer listingAfter output
-  output-listed l = as-output b (listingOf (sheetOf b)) bytes (p .length) (rw k) (after ∙ rw k) (ap (λ x. x .length) answered ∙ rw k)
+  output-listed l = as-output b listing bytes (p .length) (rw k) (after ∙ rw k) (ap (λ x. x .length) answered ∙ rw k)
     where
       k : writes (f .number) ≡ true
       k = ap writes (sym number-is) ∙ l
@@ -92,13 +97,15 @@ module _
 
 -- a call that writes a listing has accepted the sheet
 accepted-writes : (b : List ℕ) → writes (planRefusal b false .number) ≡ true → faults b ≡ []
+unfolding planRefusal
 accepted-writes b w = go (readingOf b .number) refl
   where
     go : (n : ℕ) → readingOf b .number ≡ n → faults b ≡ []
     go zero e = faults-readingOf b e
     go (suc n) e =
         let k : readingOf b .number ≡ 0 → ⊥ = λ z. omega (arith, e, z) in
-        absurd (true≢false (sym w ∙ ap (λ r. writes (r .number)) (refusal-read b false refl k) ∙ silent-read _ k (number-read b refl k)))
+        let h = bytes-read b refl in
+        absurd (true≢false (sym w ∙ ap (λ r. writes (r .number)) (refused-before h k (heldFaults (alone (sheetOf b)))) ∙ writes-nothing _ k (not-held h k)))
 
 pub length-output : (b : List ℕ) → length (output b) ≤ planBytes
 unfolding output
@@ -107,8 +114,8 @@ length-output b = go (writes (planRefusal b false .number)) refl
     r : Refusal
     r = planRefusal b false
 
-    go : (c : Bool) → writes (r .number) ≡ c → length (cond c (listingOf (sheetOf b)) (refusalText (r .number) (r .line))) ≤ planBytes
-    go true e = length-listing (sheetOf b) (wellFormed-faults b (accepted-writes b e) .values)
+    go : (c : Bool) → writes (r .number) ≡ c → length (cond c (listingOf (alone (sheetOf b))) (refusalText (r .number) (r .line))) ≤ planBytes
+    go true e = length-listing (alone (sheetOf b)) (alone-in-range (sheetOf b) (wellFormed-faults b (accepted-writes b e) .values))
     go false e = omega (arith, length-refusalText (r .number) (r .line))
 
 -- what `answer` gives is no longer than its bytes

@@ -10,38 +10,40 @@ use lib.Dec.{ltb}
 use lib.ListN.{length, take}
 use lib.Seq.{take-append-seam}
 use borrow.Author.Tests.{lt-ltb}
-use Rattle.sheet.specs.Limits.{width, lineBytes, maxBytes}
-use Rattle.sheet.specs.Sheet.{Sheet, sheetOf}
-use Rattle.sheet.specs.Checks.{firstRefusal, outside, lengthFaults, faults}
-use Rattle.sheet.specs.Calls.{padded}
-use Rattle.listing.specs.Sizes.{planBytes}
-use Rattle.listing.specs.Lines.{line}
-use Rattle.listing.specs.Text.{heldWord, refusalText}
-use Rattle.planning.specs.Planning.{canBePlanned, planRefusal, listedAnswer, listingAfter, writes}
+use Rattle.line.specs.Layout.{width, lineBytes}
+use Rattle.checks.specs.Limits.{maxBytes}
+use Rattle.checks.specs.Sheet.{sheetOf}
+use Rattle.checks.specs.Checks.{firstRefusal, outside, lengthFaults, faults}
+use Rattle.common.specs.Buffers.{padded}
+use Rattle.plan_lines.specs.Sizes.{planBytes}
+use Rattle.plan_lines.specs.Lines.{line}
+use Rattle.plan_lines.specs.Text.{heldWord, refusalText}
+use Rattle.planning.specs.Problem.{Problem, alone, canBePlanned, listingOf}
+use Rattle.planning.specs.Planning.{planRefusal, listedAnswer, listingAfter, writes}
+use Rattle.planning.specs.WrittenLaws.{number-planned, number-held, writes-planned, writes-held, listing-written}
 use Rattle.planning.specs.ReadListing.{written}
 use Rattle.planning.specs.ReadLaws.{FitsLine, FitLines}
 use Rattle.planning.specs.Theorems.{ReadsAs, reads-as}
-use Rattle.planning.specs.WrittenLaws.{number-planned, number-held, writes-planned, writes-held, listing-written}
 use Rattle.program.specs.Program.{output, outputOf}
 use Rattle.program.specs.OutputLaws.{length-output}
 
 module _ (b : List ℕ) (accepted : faults b ≡ []) where
-  abbrev s : Sheet
-  s = sheetOf b
+  abbrev p : Problem
+  p = alone (sheetOf b)
 
   -- For a well-formed sheet the output is what a planning call writes in any plan buffer.
   pub program-writes : (buffer : List ℕ)
-      → output b ≡ written (listedAnswer (planRefusal b false) s) (listingAfter (planRefusal b false) s buffer)
-  unfolding output
-  program-writes buffer = go (canBePlanned s) refl
+      → output b ≡ written (listedAnswer (planRefusal b false) (listingOf p)) (listingAfter (planRefusal b false) (listingOf p) buffer)
+  unfolding output planRefusal
+  program-writes buffer = go (canBePlanned p) refl
     where
       with-number : writes (planRefusal b false .number) ≡ true
-          → output b ≡ written (listedAnswer (planRefusal b false) s) (listingAfter (planRefusal b false) s buffer)
-      with-number w = rw w (sym (listing-written (planRefusal b false) s buffer w))
+          → output b ≡ written (listedAnswer (planRefusal b false) (listingOf p)) (listingAfter (planRefusal b false) (listingOf p) buffer)
+      with-number w = rw w (sym (listing-written (planRefusal b false) (listingOf p) buffer w))
 
-      go : (c : Bool) → canBePlanned s ≡ c → output b ≡ written (listedAnswer (planRefusal b false) s) (listingAfter (planRefusal b false) s buffer)
-      go true e = with-number (writes-planned _ (number-planned b accepted false refl e))
-      go false e = with-number (writes-held _ (number-held b accepted false refl e))
+      go : (c : Bool) → canBePlanned p ≡ c → output b ≡ written (listedAnswer (planRefusal b false) (listingOf p)) (listingAfter (planRefusal b false) (listingOf p) buffer)
+      go true e = with-number (writes-planned _ (number-planned p accepted false refl e))
+      go false e = with-number (writes-held _ (number-held p accepted false refl e))
 
 -- The program writes the first bytes of what `answer` gives, as many as its length says: they are the output.
 pub program-front : (b : List ℕ) → take (outputOf b .length) (outputOf b .bytes) ≡ output b

@@ -2,8 +2,9 @@
 //
 // The output is stated in specs/Program.antt. Only programs name this crate: a refusal's text is the program's alone,
 // and a call for outsiders writes no byte on any refusal but 12.
+use checks::refusals::NO_PLACING;
 use listing::opening;
-use listing::sizes::PLAN_BYTES;
+use plan_lines::sizes::PLAN_BYTES;
 ghost use mathlib.Core.Path.{_≡_};
 ghost use Rattle.program.specs.Program.{outputOf};
 
@@ -25,7 +26,7 @@ pub fn answer(b: &[u8]) -> Output
             length: planned.length,
         };
     }
-    if planned.number == 12 {
+    if planned.number == NO_PLACING {
         return Output {
             bytes,
             length: planned.length,

@@ -1,6 +1,6 @@
 -- `program::answer` meets its contract. Assumes nothing.
 use Rattle.planning.specs.WrittenLaws.{writes-planned, writes-held}
-use Rattle.planning.specs.NumberLaws.{silent-read}
+use Rattle.planning.specs.CallAnswers.{writes-nothing}
 use Rattle.program.specs.OutputLaws.{output-listed, output-refused}
 use borrow.Author.Needs.{needs}
 use Rattle.program.proofs.answer.Statement.{statement}
@@ -25,7 +25,7 @@ put-refusal-requires : tie.Need-put-refusal-requires
 put-refusal-requires c κs = search needs
 
 returns-3 : tie.Need-returns-3
-returns-3 c = output-refused (c .before .before .before .before .before .before .before .before .before .before .before .args .b .now) (c .before .before .before .before .before .before .before .before .plan .last .1 .0) (c .before .before .before .before .before .before .before .before .plan .result) (c .before .before .before .before .before .before .before .before .plan .ensures .0) (c .before .before .before .before .before .before .before .before .plan .ensures .1) (silent-read _ (c .before .before .before .before .before .if1 .left) (c .before .before .before .if2 .left)) (c .before .put-refusal .ensures)
+returns-3 c = output-refused (c .before .before .before .before .before .before .before .before .before .before .before .args .b .now) (c .before .before .before .before .before .before .before .before .plan .last .1 .0) (c .before .before .before .before .before .before .before .before .plan .result) (c .before .before .before .before .before .before .before .before .plan .ensures .0) (c .before .before .before .before .before .before .before .before .plan .ensures .1) (writes-nothing _ (c .before .before .before .before .before .if1 .left) (c .before .before .before .if2 .left)) (c .before .put-refusal .ensures)
 
 pub answer-spec : {M : Type 1} → statement M
 answer-spec =
