@@ -11,36 +11,40 @@ use lib.ListN.{length, drop, replicate, length-replicate}
 use lib.Seq.{take-append-seam, drop-append-seam}
 use borrow.Author.Tests.{eq-eqb, ne-eqb, eqb-true, ltb-false, not-false}
 use Rattle.common.specs.Tests.{or-false}
-use Rattle.sheet.specs.declared.Refusal.{Refusal}
-use Rattle.sheet.specs.Limits.{lineBytes}
-use Rattle.sheet.specs.Sheet.{Sheet, sheetOf, writeSheet}
-use Rattle.sheet.specs.Checks.{fault, firstRefusal, faults}
-use Rattle.sheet.specs.Calls.{accepted, refused, readingOf, padded, writeRefusal, sheetFrom, over, writtenOf, bufferAfter}
-use Rattle.sheet.specs.CallLaws.{length-over, writtenOf-refused, bufferAfter-refused}
-use Rattle.sheet.specs.FaultLaws.{false-fault, append-nil-parts, Numbered, numbered-append, numbered-fault, numbered-valueFaults, numbered-faults}
-use Rattle.sheet.specs.RangeLaws.{ValuesInRange, inRange-valueFaults}
-use Rattle.sheet.specs.WellFormedLaws.{wellFormed-faults}
-use Rattle.sheet.specs.SheetLaws.{length-writeSheet}
-use Rattle.sheet.specs.NumbersLaws.{length-jobsOf}
+use Rattle.checks.specs.declared.Refusal.{Refusal}
+use Rattle.checks.specs.Refusals.{shortBuffer, badList, noPlacing}
+use Rattle.line.specs.Layout.{lineBytes}
+use Rattle.checks.specs.Sheet.{Sheet, sheetOf, writeSheet, sheetFrom}
+use Rattle.checks.specs.Checks.{fault, firstRefusal, faults}
+use Rattle.sheet.specs.Calls.{accepted, refused, readingFrom, readingOf, writeRefusal, writtenOf, bufferAfter}
+use Rattle.common.specs.Buffers.{padded, over}
+use Rattle.common.specs.BufferLaws.{length-over}
+use Rattle.sheet.specs.CallLaws.{writtenOf-refused, bufferAfter-refused}
+use Rattle.checks.specs.FaultLaws.{false-fault, append-nil-parts, Numbered, numbered-append, numbered-fault, numbered-faults}
+use Rattle.checks.specs.RangeLaws.{ValuesInRange}
+use Rattle.sheet.specs.OwnChecks.{OfSheet, OwnChecks}
+use Rattle.sheet.specs.OwnCheckLaws.{bytes-checked, values-checked}
+use Rattle.checks.specs.SheetLaws.{length-writeSheet}
+use Rattle.checks.specs.NumbersLaws.{length-jobsOf}
 use Rattle.sheet.specs.WriteSteps.{write-accepted}
-use Rattle.placing.specs.Shortfall.{forced}
-use Rattle.placing.specs.Demands.{demandsOf}
-use Rattle.placing.specs.DemandLaws.{windows-demandsOf}
-use Rattle.placing.specs.Theorems.{feasible-iff-sound}
+use Rattle.schedules.specs.DemandLaws.{windows-demandsOf}
+use Rattle.schedules.specs.Theorems.{feasible-iff-sound}
 use Rattle.questions.specs.Calls.{sheetShortfall, boundsFault, cutHighs, sheetFeasible}
 use Rattle.questions.specs.BoundsSteps.{length-cutHighs}
-use Rattle.listing.specs.Sizes.{planBytes, gridBytes}
-use Rattle.listing.specs.Text.{planText, heldText, gridOf}
-use Rattle.planning.specs.Planning.{canBePlanned, feedingsOf, planOf, shownSet, listingOf, gridFor, heldFaults, planRefusal, shortPlan, shortGrid, writes, listedAnswer, listingAfter, gridAfter}
-use Rattle.planning.specs.NumberLaws.{OfSheet, of-values, of-faults, silent-read}
-use Rattle.planning.specs.Refusals.{listed-silent, listing-silent, grid-silent}
-use Rattle.planning.specs.DayLaws.{feedings-rows, length-feedings}
-use Rattle.planning.specs.FitLaws.{capacity-fullHigh}
-use Rattle.planning.specs.WrittenLaws.{listing-plan, listing-held, grid-plan, length-shownSet, length-listing, writes-planned, writes-held}
+use Rattle.plan_lines.specs.Sizes.{planBytes, gridBytes}
+use Rattle.plan_lines.specs.Text.{gridOf}
+use Rattle.planning.specs.Problem.{Problem, alone, ProblemInRange, canBePlanned, feedingsOf, planListing, heldListing, listingOf, gridFor}
+use Rattle.planning.specs.Planning.{heldFaults, planChecks, planRefusal, shortPlan, shortGrid, writes, listedAnswer, listingAfter, gridAfter}
+use Rattle.planning.specs.PlacingLaws.{placing-rows, length-placing}
+use Rattle.planning.specs.WrittenLaws.{writes-planned, writes-held}
+use Rattle.planning.specs.ProblemLaws.{feedings-sound, listing-plan, listing-held, grid-plan, length-listing}
+use Rattle.planning.specs.AloneLaws.{left-alone, room-alone, may-alone, alone-in-range}
+use Rattle.planning.specs.CallAnswers.{writes-nothing, listed-nothing, placed-nothing}
 use Rattle.program.specs.Program.{output}
 use Rattle.records.specs.Records.{recordFaults}
 use Rattle.demands.specs.GridLaws.{length-gridOf}
-use Rattle.demands.specs.Answers.{FirstOf, planChecks, NotZero, RefusedNotHeld, ShortfallOf, YesFor, Front, heldOf, PlanBuffer, PlacingBuffer, SheetBuffer, ProgramText}
+use Rattle.demands.specs.Outcome.{AloneIs}
+use Rattle.demands.specs.Answers.{FirstOf, NotZero, RefusedNotHeld, ShortfallOf, YesFor, Front, PlanBuffer, PlacingBuffer, SheetBuffer, ProgramText}
 
 -- The first check that applies -----------------------------------------------------------
 
@@ -53,14 +57,13 @@ first-of rs numbered =
       no-other = numbered;
     }
 
-pub numbered-held : (s : Sheet) → Numbered (heldFaults s)
-unfolding heldFaults
-numbered-held s = numbered-fault 12 0 (not (canBePlanned s)) (omega arith)
+pub numbered-held : (p : Problem) → Numbered (heldFaults p)
+numbered-held p = numbered-fault noPlacing 0 (not (canBePlanned p)) (omega arith)
 
-pub numbered-plan : (own : List Refusal) → Numbered own → (short : Bool) (s : Sheet) → Numbered (planChecks own short s)
-numbered-plan own numbered short s =
-    numbered-append own (fault 10 0 short ++ heldFaults s) numbered
-    (numbered-append (fault 10 0 short) (heldFaults s) (numbered-fault 10 0 short (omega arith)) (numbered-held s))
+pub numbered-plan : (own : List Refusal) → Numbered own → (short : Bool) (p : Problem) → Numbered (planChecks own short p)
+numbered-plan own numbered short p =
+    numbered-append own (fault shortBuffer 0 short ++ heldFaults p) numbered
+    (numbered-append (fault shortBuffer 0 short) (heldFaults p) (numbered-fault shortBuffer 0 short (omega arith)) (numbered-held p))
 
 -- one check more, of a list or a buffer
 pub numbered-one : (own : List Refusal) → Numbered own → (number : ℕ) (t : Bool) → 0 < number → Numbered (own ++ fault number 0 t)
@@ -68,7 +71,7 @@ numbered-one own h number t l = numbered-append own (fault number 0 t) h (number
 
 -- what number 0, and what number 12, says of a call that plans: its sheet is well-formed, no buffer is too short, and
 -- the sheet is planned or held
-passed-planned : (own : List Refusal) → Numbered own → (short c : Bool) → firstRefusal (own ++ (fault 10 0 short ++ fault 12 0 (not c))) .number ≡ 0
+passed-planned : (own : List Refusal) → Numbered own → (short c : Bool) → firstRefusal (own ++ (fault shortBuffer 0 short ++ fault noPlacing 0 (not c))) .number ≡ 0
     → (own ≡ []) × (short ≡ false) × (c ≡ true)
 unfolding firstRefusal
 passed-planned [] n true c e = absurd (omega arith)
@@ -76,7 +79,7 @@ passed-planned [] n false true e = (refl, refl, refl)
 passed-planned [] n false false e = absurd (omega arith)
 passed-planned (x ∷ xs) n short c e = absurd (cons≢nil (n e))
 
-passed-held : (own : List Refusal) → OfSheet own → (short c : Bool) → firstRefusal (own ++ (fault 10 0 short ++ fault 12 0 (not c))) .number ≡ 12
+passed-held : (own : List Refusal) → OfSheet own → (short c : Bool) → firstRefusal (own ++ (fault shortBuffer 0 short ++ fault noPlacing 0 (not c))) .number ≡ noPlacing
     → (own ≡ []) × (short ≡ false) × (c ≡ false)
 unfolding firstRefusal
 passed-held [] h true c e = absurd (omega arith)
@@ -105,92 +108,111 @@ long-grid placing e = ltb-false (length placing) gridBytes e
 
 -- Calls that plan ------------------------------------------------------------------------------
 
--- the checks of the sheet alone: their numbers are neither 0 nor 12, and where none applies the sheet's values are in
--- range
-pub record OwnChecks (own : List Refusal) (s : Sheet) : Type 0 where
-  pub numbered : Numbered own
-  pub of-sheet : OfSheet own
-  pub values : own ≡ [] → ValuesInRange s (length (s .jobs)) true
-
-module _ {own : List Refusal} {s : Sheet} (checks : OwnChecks own s) (short : Bool) where
+-- a problem over the sheet that passed the checks, in range where none of them applied
+module _ {own : List Refusal} {s : Sheet} (checks : OwnChecks own s) (p : Problem) (in-range : ValuesInRange 1 s (length (s .jobs)) true → ProblemInRange p) (short : Bool) where
   abbrev r : Refusal
-  r = firstRefusal (planChecks own short s)
+  r = firstRefusal (planChecks own short p)
 
-  pub number-zero : r .number ≡ 0 → (own ≡ []) × (short ≡ false) × (canBePlanned s ≡ true)
-  unfolding heldFaults
-  number-zero e = passed-planned own (checks .numbered) short (canBePlanned s) e
+  number-zero : r .number ≡ 0 → (own ≡ []) × (short ≡ false) × (canBePlanned p ≡ true)
+  number-zero e = passed-planned own (checks .numbered) short (canBePlanned p) e
 
-  pub number-twelve : r .number ≡ 12 → (own ≡ []) × (short ≡ false) × (canBePlanned s ≡ false)
-  unfolding heldFaults
-  number-twelve e = passed-held own (checks .of-sheet) short (canBePlanned s) e
+  number-twelve : r .number ≡ noPlacing → (own ≡ []) × (short ≡ false) × (canBePlanned p ≡ false)
+  number-twelve e = passed-held own (checks .of-sheet) short (canBePlanned p) e
 
   silent : RefusedNotHeld (r .number) → writes (r .number) ≡ false
-  silent h = silent-read (r .number) (h .0) (h .1)
+  silent h = writes-nothing (r .number) (h .0) (h .1)
 
-  held-text : canBePlanned s ≡ false → own ≡ [] → listingOf s ≡ heldOf s
-  held-text e f =
-      listing-held s (checks .values f) e
-      ∙ ap (heldText (shownSet s) (forced (demandsOf s) (shownSet s))) (capacity-fullHigh s (shownSet s) (length-shownSet s))
+  range : own ≡ [] → ProblemInRange p
+  range e = in-range (checks .values e)
 
   module _ (old : List ℕ) where
-    listed : (text : List ℕ) → writes (r .number) ≡ true → listingOf s ≡ text → length text ≤ length old
-        → (listedAnswer r s .length ≡ length text) × Front text old (listingAfter r s old)
+    listed : (text : List ℕ) → writes (r .number) ≡ true → listingOf p ≡ text → length text ≤ length old
+        → (listedAnswer r (listingOf p) .length ≡ length text) × Front text old (listingAfter r (listingOf p) old)
     unfolding listedAnswer listingAfter
     listed text w e l = (rw (w, e), rw (w, e) (front-over text old l))
 
-    pub plan-buffer : (short ≡ false → planBytes ≤ length old) → PlanBuffer s (r .number) (listedAnswer r s .length) old (listingAfter r s old)
+    pub plan-buffer : (short ≡ false → planBytes ≤ length old)
+        → PlanBuffer p (r .number) (listedAnswer r (listingOf p) .length) old (listingAfter r (listingOf p) old)
     plan-buffer room =
         record {
-          refused = λ h. (sym (ap (λ x. x .length) (listed-silent r s (silent h))), sym (listing-silent r s (silent h) old));
+          refused = λ h. let w = listed-nothing r (silent h) (listingOf p) old in (sym (ap (λ x. x .length) (w .0)), sym (w .1));
           planned = λ e.
-              let p = number-zero e in
-              let v = checks .values (p .0) in
-              let t = listing-plan s v (p .2) in
-              listed (planText (planOf s)) (writes-planned (r .number) e) t (omega (arith, ap length t, length-listing s v, room (p .1)));
+              let z = number-zero e in
+              let t = listing-plan p (z .2) in
+              listed (planListing p) (writes-planned (r .number) e) t (omega (arith, ap length t, length-listing p (range (z .0)), room (z .1)));
           held = λ e.
-              let p = number-twelve e in
-              let t = held-text (p .2) (p .0) in
-              listed (heldOf s) (writes-held (r .number) e) t (omega (arith, ap length t, length-listing s (checks .values (p .0)), room (p .1)));
+              let z = number-twelve e in
+              let t = listing-held p (z .2) in
+              listed (heldListing p) (writes-held (r .number) e) t (omega (arith, ap length t, length-listing p (range (z .0)), room (z .1)));
         }
 
-    marked : (bytes : List ℕ) → writes (r .number) ≡ true → gridFor s ≡ bytes → length bytes ≤ length old → Front bytes old (gridAfter r s old)
+    marked : (bytes : List ℕ) → writes (r .number) ≡ true → gridFor p ≡ bytes → length bytes ≤ length old → Front bytes old (gridAfter r (gridFor p) old)
     unfolding gridAfter
     marked bytes w e l = rw (w, e) (front-over bytes old l)
 
-    no-grid : canBePlanned s ≡ false → gridFor s ≡ replicate gridBytes 0
+    no-grid : canBePlanned p ≡ false → gridFor p ≡ replicate gridBytes 0
     unfolding gridFor gridOf padded
     no-grid e = rw (e, gridFor)
 
-    pub placing-buffer : (short ≡ false → gridBytes ≤ length old) → PlacingBuffer s (r .number) old (gridAfter r s old)
+    pub placing-buffer : (short ≡ false → gridBytes ≤ length old) → PlacingBuffer p (r .number) old (gridAfter r (gridFor p) old)
     placing-buffer room =
         record {
-          refused = λ h. sym (grid-silent r s (silent h) old);
+          refused = λ h. sym (placed-nothing r (silent h) (gridFor p) old);
           planned = λ e.
-              let p = number-zero e in
-              let v = checks .values (p .0) in
-              let n = length-gridOf (s .slots) (v .head .slots .le) (feedingsOf s) (feedings-rows s (p .2)) (omega (arith, length-feedings s (p .2), v .head .rations)) in
-              (n, marked (gridOf (feedingsOf s)) (writes-planned (r .number) e) (grid-plan s v (p .2)) (omega (arith, n, room (p .1))));
+              let z = number-zero e in
+              let g = range (z .0) in
+              let can = feedings-sound p g (z .2) in
+              let n = length-gridOf (p .sheet .slots) (g .values .head .slots .le) (feedingsOf p) (placing-rows (p .sheet) (feedingsOf p) can) (omega (arith, length-placing (p .sheet) (feedingsOf p) can, g .values .head .rations)) in
+              (n, marked (gridOf (feedingsOf p)) (writes-planned (r .number) e) (grid-plan p (z .2)) (omega (arith, n, room (z .1))));
           held = λ e.
-              let p = number-twelve e in
-              marked (replicate gridBytes 0) (writes-held (r .number) e) (no-grid (p .2)) (omega (arith, length-replicate {A = ℕ} gridBytes 0, room (p .1)));
+              let z = number-twelve e in
+              marked (replicate gridBytes 0) (writes-held (r .number) e) (no-grid (z .2)) (omega (arith, length-replicate {A = ℕ} gridBytes 0, room (z .1)));
         }
 
 -- whatever the checks of its sheet alone are, the answer is the first check that applies
 module _ {own : List Refusal} {s : Sheet} (checks : OwnChecks own s) where
-  pub first-planned : (short : Bool) → let r = firstRefusal (planChecks own short s) in FirstOf (planChecks own short s) (r .number) (r .line)
-  first-planned short = first-of (planChecks own short s) (numbered-plan own (checks .numbered) short s)
+  pub first-planned : (p : Problem) (short : Bool) → let r = firstRefusal (planChecks own short p) in FirstOf (planChecks own short p) (r .number) (r .line)
+  first-planned p short = first-of (planChecks own short p) (numbered-plan own (checks .numbered) short p)
 
   -- of a question too, with the check of its lists
-  pub first-asked : (t : Bool) → let r = firstRefusal (own ++ fault 11 0 t) in FirstOf (own ++ fault 11 0 t) (r .number) (r .line)
-  first-asked t = first-of (own ++ fault 11 0 t) (numbered-one own (checks .numbered) 11 t (omega arith))
+  pub first-asked : (t : Bool) → let r = firstRefusal (own ++ fault badList 0 t) in FirstOf (own ++ fault badList 0 t) (r .number) (r .line)
+  first-asked t = first-of (own ++ fault badList 0 t) (numbered-one own (checks .numbered) badList t (omega arith))
 
-  pub both-buffers : (listing placing : List ℕ) → let short = shortPlan listing || shortGrid placing in let r = firstRefusal (planChecks own short s) in
-      PlanBuffer s (r .number) (listedAnswer r s .length) listing (listingAfter r s listing) × PlacingBuffer s (r .number) placing (gridAfter r s placing)
-  both-buffers listing placing =
+-- a sheet planned alone
+module _ {own : List Refusal} {s : Sheet} (checks : OwnChecks own s) where
+  abbrev p : Problem
+  p = alone s
+
+  pub first-alone : (short : Bool) → let r = firstRefusal (planChecks own short p) in FirstOf (planChecks own short p) (r .number) (r .line)
+  first-alone = first-planned checks p
+
+  pub buffer-alone : (listing : List ℕ) → let r = firstRefusal (planChecks own (shortPlan listing) p) in
+      PlanBuffer p (r .number) (listedAnswer r (listingOf p) .length) listing (listingAfter r (listingOf p) listing)
+  buffer-alone listing = plan-buffer checks p (alone-in-range s) (shortPlan listing) listing (long-plan listing)
+
+  pub placing-alone : (placing : List ℕ) → let r = firstRefusal (planChecks own (shortGrid placing) p) in
+      PlacingBuffer p (r .number) placing (gridAfter r (gridFor p) placing)
+  placing-alone placing = placing-buffer checks p (alone-in-range s) (shortGrid placing) placing (long-grid placing)
+
+  pub both-alone : (listing placing : List ℕ) → let r = firstRefusal (planChecks own (shortPlan listing || shortGrid placing) p) in
+      PlanBuffer p (r .number) (listedAnswer r (listingOf p) .length) listing (listingAfter r (listingOf p) listing)
+      × PlacingBuffer p (r .number) placing (gridAfter r (gridFor p) placing)
+  both-alone listing placing =
       let short = shortPlan listing || shortGrid placing in (
-        plan-buffer checks short listing (λ e. long-plan listing (or-false (shortPlan listing) (shortGrid placing) e .0)),
-        placing-buffer checks short placing (λ e. long-grid placing (or-false (shortPlan listing) (shortGrid placing) e .1)),
+        plan-buffer checks p (alone-in-range s) short listing (λ e. long-plan listing (or-false (shortPlan listing) (shortGrid placing) e .0)),
+        placing-buffer checks p (alone-in-range s) short placing (λ e. long-grid placing (or-false (shortPlan listing) (shortGrid placing) e .1)),
       )
+
+-- where none of the checks of the sheet alone applies, it is a problem in range
+pub bytes-in-range : (b : List ℕ) → faults b ≡ [] → ProblemInRange (alone (sheetOf b))
+bytes-in-range b e = alone-in-range (sheetOf b) (bytes-checked b .values e)
+
+pub records-in-range : (s : Sheet) → recordFaults s ≡ [] → ProblemInRange (alone s)
+unfolding recordFaults
+records-in-range s e = alone-in-range s (values-checked s .values e)
+
+pub alone-is : (s : Sheet) → AloneIs s
+alone-is s = record { left-is = left-alone s; room-is = room-alone s; may-is = may-alone s }
 
 -- a question that is refused
 pub zero-unless : (n : ℕ) (x : ℤ) → NotZero n → cond (eqb n 0) x (pos 0) ≡ pos 0
@@ -204,23 +226,22 @@ pub shortfall-is : (s : Sheet) (marks : List ℕ) (n : ℕ) → n ≡ 0 → Shor
 unfolding sheetShortfall
 shortfall-is s marks n e = rw (eq-eqb n 0 e)
 
-pub yes-for : {own : List Refusal} {s : Sheet} → OwnChecks own s → (lows highs : List ℕ) → let n = firstRefusal (own ++ fault 11 0 (boundsFault (s .slots) lows highs)) .number in
+pub yes-for : {own : List Refusal} {s : Sheet} → OwnChecks own s → (lows highs : List ℕ) → let n = firstRefusal (own ++ fault badList 0 (boundsFault (s .slots) lows highs)) .number in
     n ≡ 0 → YesFor s lows highs (eqb n 0 && sheetFeasible s lows highs)
 unfolding boundsFault sheetFeasible
 yes-for {own} {s} checks lows highs e =
     let t = boundsFault (s .slots) lows highs in
-    let p = append-nil-parts own (fault 11 0 t) (numbered-one own (checks .numbered) 11 t (omega arith) e) in
-    let o = or-false (not (eqb (length lows) (s .slots))) (not (eqb (length highs) (s .slots))) (false-fault 11 0 t (p .1)) in
+    let p = append-nil-parts own (fault badList 0 t) (numbered-one own (checks .numbered) badList t (omega arith) e) in
+    let o = or-false (not (eqb (length lows) (s .slots))) (not (eqb (length highs) (s .slots))) (false-fault badList 0 t (p .1)) in
     let l = eqb-true (length lows) (s .slots) (not-false _ (o .0)) in
     let h = eqb-true (length highs) (s .slots) (not-false _ (o .1)) in
-    rw (eq-eqb (firstRefusal (own ++ fault 11 0 t) .number) 0 e)
+    rw (eq-eqb (firstRefusal (own ++ fault badList 0 t) .number) 0 e)
     (feasible-iff-sound (windows-demandsOf s) lows (cutHighs (s .blowers) highs) l (length-cutHighs (s .blowers) highs ∙ h))
 
-pub numbered-compared : (a b : List ℕ) → Numbered (faults a ++ (heldFaults (sheetOf a) ++ (faults b ++ heldFaults (sheetOf b))))
-numbered-compared a b =
+pub numbered-compared : (a b : List ℕ) (p q : Problem) → Numbered (faults a ++ (heldFaults p ++ (faults b ++ heldFaults q)))
+numbered-compared a b p q =
     numbered-append (faults a) _ (numbered-faults a)
-    (numbered-append (heldFaults (sheetOf a)) _ (numbered-held (sheetOf a))
-    (numbered-append (faults b) (heldFaults (sheetOf b)) (numbered-faults b) (numbered-held (sheetOf b))))
+    (numbered-append (heldFaults p) _ (numbered-held p) (numbered-append (faults b) (heldFaults q) (numbered-faults b) (numbered-held q)))
 
 -- Calls that write a sheet -----------------------------------------------------------------------
 
@@ -237,7 +258,7 @@ sheet-buffer r s old room =
 
 -- a reading gives the first refusal, and no values where there is one
 pub read-first : (b : List ℕ) → FirstOf (faults b) (readingOf b .number) (readingOf b .line)
-unfolding readingOf accepted refused
+unfolding readingOf readingFrom accepted refused
 read-first b = go (eqb (firstRefusal (faults b) .number) 0) refl (first-of (faults b) (numbered-faults b))
   where
     go : (t : Bool) → eqb (firstRefusal (faults b) .number) 0 ≡ t → FirstOf (faults b) (firstRefusal (faults b) .number) (firstRefusal (faults b) .line)
@@ -248,7 +269,7 @@ read-first b = go (eqb (firstRefusal (faults b) .number) 0) refl (first-of (faul
     go false q f = f
 
 pub read-nothing : (b : List ℕ) → NotZero (readingOf b .number) → readingOf b ≡ refused (firstRefusal (faults b))
-unfolding readingOf accepted refused
+unfolding readingOf readingFrom accepted refused
 read-nothing b n = go (eqb (firstRefusal (faults b) .number) 0) n
   where
     go : (t : Bool) → NotZero (cond t (accepted (sheetOf b)) (refused (firstRefusal (faults b))) .number)
@@ -256,24 +277,16 @@ read-nothing b n = go (eqb (firstRefusal (faults b) .number) 0) n
     go true n = absurd (n refl)
     go false n = refl
 
--- the checks of a sheet's bytes, and those of a sheet that records make
-pub bytes-checked : (b : List ℕ) → OwnChecks (faults b) (sheetOf b)
-bytes-checked b = record { numbered = numbered-faults b; of-sheet = of-faults b; values = λ e. wellFormed-faults b e .values }
-
+-- the checks of a sheet that records make
 pub records-checked : (s : Sheet) → OwnChecks (recordFaults s) s
 unfolding recordFaults
-records-checked s =
-    record {
-      numbered = numbered-valueFaults s (length (s .jobs)) true;
-      of-sheet = of-values s (length (s .jobs)) true;
-      values = inRange-valueFaults s (length (s .jobs)) true;
-    }
+records-checked s = values-checked s
 
 -- where no check of the values and of the buffer applies, the buffer is long enough
-pub write-room : (own : List Refusal) → Numbered own → (size need : ℕ) → firstRefusal (own ++ fault 10 0 (ltb size need)) .number ≡ 0 → need ≤ size
+pub write-room : (own : List Refusal) → Numbered own → (size need : ℕ) → firstRefusal (own ++ fault shortBuffer 0 (ltb size need)) .number ≡ 0 → need ≤ size
 write-room own h size need e =
-    let p = append-nil-parts own (fault 10 0 (ltb size need)) (numbered-one own h 10 (ltb size need) (omega arith) e) in
-    ltb-false size need (false-fault 10 0 (ltb size need) (p .1))
+    let p = append-nil-parts own (fault shortBuffer 0 (ltb size need)) (numbered-one own h shortBuffer (ltb size need) (omega arith) e) in
+    ltb-false size need (false-fault shortBuffer 0 (ltb size need) (p .1))
 
 -- .. and what is written has a line for each of the n rations
 pub room-sheet : (slots blowers wake n : ℕ) (numbers : List ℕ) (size : ℕ) → let s = sheetFrom slots blowers wake numbers in
@@ -286,20 +299,23 @@ room-sheet slots blowers wake n numbers size e =
 
 -- The program ----------------------------------------------------------------------------------------
 
-pub program-text : (b : List ℕ) → ProgramText (sheetOf b) (planRefusal b false .number) (planRefusal b false .line) (output b)
+pub program-text : (b : List ℕ) → ProgramText (alone (sheetOf b)) (planRefusal b false .number) (planRefusal b false .line) (output b)
 unfolding planRefusal output
 program-text b =
     record {
-      refused = λ h. rw (silent checks false h);
-      planned = λ e. let p = number-zero checks false e in rw (writes-planned (r .number) e) (listing-plan s (checks .values (p .0)) (p .2));
-      held = λ e. let p = number-twelve checks false e in rw (writes-held (r .number) e) (held-text checks false (p .2) (p .0));
+      refused = λ h. rw (silent checks p (alone-in-range s) false h);
+      planned = λ e. rw (writes-planned (r .number) e) (listing-plan p (number-zero checks p (alone-in-range s) false e .2));
+      held = λ e. rw (writes-held (r .number) e) (listing-held p (number-twelve checks p (alone-in-range s) false e .2));
     }
   where
     s : Sheet
     s = sheetOf b
 
+    p : Problem
+    p = alone s
+
     checks : OwnChecks (faults b) s
     checks = bytes-checked b
 
     r : Refusal
-    r = firstRefusal (planChecks (faults b) false s)
+    r = firstRefusal (planChecks (faults b) false p)

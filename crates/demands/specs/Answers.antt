@@ -4,22 +4,23 @@
 use mathlib.Core.Path.{_≡_}
 use mathlib.Core.Logic.{_↔_}
 use mathlib.Core.Bool.{Bool, true}
-use mathlib.Core.List.{List, [], _∷_, _++_}
+use mathlib.Core.List.{List, [], _∷_}
 use Prim.Native.Nat.{ℕ, suc, _*_, _≤_, _<_}
 use lib.IntN.{ℤ}
 use lib.ListN.{length, take, drop, replicate}
-use Rattle.common.specs.Lists.{count}
-use Rattle.sheet.specs.declared.Refusal.{Refusal}
-use Rattle.sheet.specs.Limits.{lineBytes}
-use Rattle.sheet.specs.Sheet.{Sheet, lineCount, lineAt, valueAt, writeSheet}
-use Rattle.sheet.specs.Checks.{fault}
-use Rattle.placing.specs.Schedules.{Schedule, Sound}
-use Rattle.placing.specs.Shortfall.{forced, shortfall}
-use Rattle.placing.specs.Demands.{demandsOf, fullHigh}
-use Rattle.questions.specs.Calls.{marked, cutHighs}
-use Rattle.listing.specs.Sizes.{gridBytes}
-use Rattle.listing.specs.Text.{planText, heldText, refusalText, gridOf}
-use Rattle.planning.specs.Planning.{feedingsOf, planOf, shownSet, heldFaults}
+use Rattle.checks.specs.declared.Refusal.{Refusal}
+use Rattle.checks.specs.Refusals.{noPlacing}
+use Rattle.line.specs.Layout.{lineBytes}
+use Rattle.checks.specs.Sheet.{Sheet, lineCount, lineAt, writeSheet}
+use Rattle.line.specs.Line.{valueAt}
+use Rattle.schedules.specs.Schedules.{Schedule, Sound}
+use Rattle.schedules.specs.Shortfall.{shortfall}
+use Rattle.schedules.specs.Demands.{demandsOf, fullHigh}
+use Rattle.marks.specs.Marks.{marked}
+use Rattle.questions.specs.Calls.{cutHighs}
+use Rattle.plan_lines.specs.Sizes.{gridBytes}
+use Rattle.plan_lines.specs.Text.{refusalText, gridOf}
+use Rattle.planning.specs.Problem.{Problem, feedingsOf, planListing, heldListing}
 use Rattle.program.specs.Program.{outputOf}
 
 -- The number and the line -------------------------------------------------------------------
@@ -32,17 +33,13 @@ pub record FirstOf (applying : List Refusal) (number line : ℕ) : Type 0 where
   pub accepted : applying ≡ [] → (number ≡ 0) × (line ≡ 0)
   pub no-other : number ≡ 0 → applying ≡ []
 
--- the checks of a call that plans, after those of its sheet alone: 10, a lent buffer that is too short, and 12
-abbrev pub planChecks : (own : List Refusal) → (short : Bool) → Sheet → List Refusal
-planChecks own short s = own ++ (fault 10 0 short ++ heldFaults s)
-
 -- every number but 0 ..
 abbrev pub NotZero : ℕ → Type 0
 NotZero number = number ≡ 0 → ⊥
 
 -- .. and every number but 0 and 12
 abbrev pub RefusedNotHeld : ℕ → Type 0
-RefusedNotHeld number = NotZero number × (number ≡ 12 → ⊥)
+RefusedNotHeld number = NotZero number × (number ≡ noPlacing → ⊥)
 
 -- The questions, where nothing is refused -------------------------------------------------------
 
@@ -68,25 +65,21 @@ pub record Front (text old new : List ℕ) : Type 0 where
   pub text-is : take (length text) new ≡ text
   pub kept : drop (length text) new ≡ drop (length text) old
 
--- the text of a held sheet: `HELD`, a line of 12, |Q|, forced(Q) and |Q| × m, and a line for each slot of Q
-abbrev pub heldOf : Sheet → List ℕ
-heldOf s = heldText (shownSet s) (forced (demandsOf s) (shownSet s)) (count (shownSet s) * s .blowers)
-
--- A plan buffer lent to a call that plans sheet s and gives this number and this length.
-pub record PlanBuffer (s : Sheet) (number size : ℕ) (old new : List ℕ) : Type 0 where
+-- A plan buffer lent to a call that plans problem p and gives this number and this length.
+pub record PlanBuffer (p : Problem) (number size : ℕ) (old new : List ℕ) : Type 0 where
   -- on any number beside 0 and 12 the buffer is as it was, and the length is 0
   pub refused : RefusedNotHeld number → (size ≡ 0) × (new ≡ old)
-  -- on 0 it has a plan's listing at its front, on 12 a held sheet's, and the length is that of this text
-  pub planned : number ≡ 0 → (size ≡ length (planText (planOf s))) × Front (planText (planOf s)) old new
-  pub held : number ≡ 12 → (size ≡ length (heldOf s)) × Front (heldOf s) old new
+  -- on 0 it has a plan's listing at its front, on 12 that of a held problem, and the length is that of this text
+  pub planned : number ≡ 0 → (size ≡ length (planListing p)) × Front (planListing p) old new
+  pub held : number ≡ noPlacing → (size ≡ length (heldListing p)) × Front (heldListing p) old new
 
 -- A placing buffer lent to such a call.
-pub record PlacingBuffer (s : Sheet) (number : ℕ) (old new : List ℕ) : Type 0 where
+pub record PlacingBuffer (p : Problem) (number : ℕ) (old new : List ℕ) : Type 0 where
   pub refused : RefusedNotHeld number → new ≡ old
   -- 6,144 bytes, which mark the feedings ..
-  pub planned : number ≡ 0 → (length (gridOf (feedingsOf s)) ≡ gridBytes) × Front (gridOf (feedingsOf s)) old new
-  -- .. and are all 0 for a held sheet
-  pub held : number ≡ 12 → Front (replicate gridBytes 0) old new
+  pub planned : number ≡ 0 → (length (gridOf (feedingsOf p)) ≡ gridBytes) × Front (gridOf (feedingsOf p)) old new
+  -- .. and are all 0 where nothing is planned
+  pub held : number ≡ noPlacing → Front (replicate gridBytes 0) old new
 
 -- A buffer lent to a call that writes sheet s.
 pub record SheetBuffer (s : Sheet) (number size : ℕ) (old new : List ℕ) : Type 0 where
@@ -99,8 +92,8 @@ abbrev pub programText : List ℕ → List ℕ
 programText b = take (outputOf b .length) (outputOf b .bytes)
 
 -- That text, where planning gives this number and this line.
-pub record ProgramText (s : Sheet) (number line : ℕ) (text : List ℕ) : Type 0 where
+pub record ProgramText (p : Problem) (number line : ℕ) (text : List ℕ) : Type 0 where
   -- on any number beside 0 and 12: `HELD`, and a line of number, line, 0, 0
   pub refused : RefusedNotHeld number → text ≡ refusalText number line
-  pub planned : number ≡ 0 → text ≡ planText (planOf s)
-  pub held : number ≡ 12 → text ≡ heldOf s
+  pub planned : number ≡ 0 → text ≡ planListing p
+  pub held : number ≡ noPlacing → text ≡ heldListing p

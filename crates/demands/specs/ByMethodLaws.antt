@@ -1,122 +1,154 @@
 -- Why a plan's feedings and lines are those of the method, from the law files of the layers below. Assumes nothing.
-use mathlib.Core.Path.{_≡_, sym, ap, _∙_, subst}
+use mathlib.Core.Path.{_≡_, refl, sym, ap, ap₂, _∙_, subst}
 use mathlib.Core.Logic.{_↔_}
 use mathlib.Core.Bool.{Bool, true, false}
 use mathlib.Core.List.{List, []}
 use Prim.Native.Nat.{ℕ, _≤_}
 use lib.ListN.{length}
 use Rattle.common.specs.Lists.{same}
-use Rattle.sheet.specs.declared.Refusal.{Refusal}
-use Rattle.sheet.specs.Sheet.{Sheet, sheetOf}
-use Rattle.sheet.specs.Checks.{firstRefusal, faults}
-use Rattle.sheet.specs.RangeLaws.{ValuesInRange}
-use Rattle.placing.specs.Schedules.{Schedule}
-use Rattle.placing.specs.Demands.{demandsOf}
-use Rattle.placing.specs.DemandLaws.{windows-demandsOf}
-use Rattle.stretches.specs.Method.{Bounds, settleAll, loads}
-use Rattle.stretches.specs.Worded.{runsWorded, boundsWorded}
-use Rattle.stretches.specs.Feedings.{Greedy}
-use Rattle.stretches.specs.FeedingLaws.{chosen-greedy, same-eq, same-self}
-use Rattle.stretches.specs.Theorems.{settled-as-worded, runs-as-worded, intervals-are-settled, loads-feasible}
+use Rattle.checks.specs.declared.Refusal.{Refusal}
+use Rattle.checks.specs.Sheet.{Sheet, sheetOf}
+use Rattle.checks.specs.Checks.{firstRefusal, faults}
+use Rattle.schedules.specs.Schedules.{Schedule, load}
+use Rattle.schedules.specs.Demands.{demandsOf, fullHigh}
+use Rattle.method.specs.Method.{dayBounds, boundsUnder, settleAll, loads}
+use Rattle.method.specs.SettledRuns.{settledRuns, boundsAtTurn}
+use Rattle.method.specs.Worded.{settleAllWorded, runsWorded, boundsWorded}
+use Rattle.method.specs.Feedings.{Greedy, chosen}
+use Rattle.method.specs.FeedingLaws.{chosen-greedy, same-eq, same-self}
+use Rattle.method.specs.Theorems.{settled-as-worded, runs-as-worded, intervals-are-settled, loads-feasible}
 use Rattle.energy.specs.Energy.{starts, energy}
-use Rattle.listing.specs.Lines.{stretchLines, feedLines, planLines}
-use Rattle.planning.specs.Planning.{canBePlanned, countsOf, feedingsOf, planOf, listingOf, heldFaults, listedAnswer, listingAfter, gridAfter, compareRefusal, sameDay}
+use Rattle.plan_lines.specs.Lines.{stretchLines, feedLines, planLines}
+use Rattle.planning.specs.Problem.{Problem, alone, left, ProblemInRange, canBePlanned, settledCounts, feedingsOf, countsOf, planWith, listingOf, gridFor}
+use Rattle.planning.specs.Planning.{planChecks, listedAnswer, listingAfter, gridAfter, compareRefusal, sameDay}
 use Rattle.planning.specs.ReadListing.{written, tanks, linesOf, stretchesOn}
-use Rattle.planning.specs.DayLaws.{sound-planned, possible, high, length-countsOf, settled-low-is-high, feedings-load}
-use Rattle.planning.specs.WrittenLaws.{grid-written, writes-planned, listing-plan, lines-plan, stretchPart-plan, feedPart-plan, head-plan}
 use Rattle.planning.specs.StretchLineLaws.{stretchesOn-lines}
-use Rattle.demands.specs.Answers.{planChecks}
-use Rattle.demands.specs.AnswerLaws.{OwnChecks}
+use Rattle.planning.specs.WrittenLaws.{number-planned, grid-written, writes-planned, stretchPart-plan, feedPart-plan, head-plan, placing-on}
+use Rattle.planning.specs.ProblemLaws.{windows-left, room-below, may-planned, possible, settled-low-is-high, length-settledCounts, rest-load, feedings-whole, counts-whole, length-countsOf}
+use Rattle.planning.specs.AloneLaws.{left-alone, room-alone}
 use Rattle.demands.specs.Outcome.{placingIn}
-use Rattle.demands.specs.OutcomeLaws.{placing-on, marked-feedings, number-planned, written-listing}
-use Rattle.demands.specs.ByMethod.{HasPlacing, begun, settled, ChosenByMethod, ByMethod}
+use Rattle.demands.specs.OutcomeLaws.{feedings-are, lines-are, marked-feedings, written-listing}
+use Rattle.demands.specs.AnswerLaws.{bytes-in-range}
+use Rattle.demands.specs.ByMethod.{HasPlacing, settled, runsOf, ChosenByMethod, ByMethod}
 
-as-worded : (s : Sheet) → settled s ≡ settleAll (s .slots) (demandsOf s) (s .blowers) (begun s)
-as-worded s = settled-as-worded (s .slots) (s .blowers) (demandsOf s)
+-- A sheet planned alone: as document 01 words the method ------------------------------------------------
 
--- the counts, as the calls' definitions have them
-pub settled-counts : (s : Sheet) → settled s .low ≡ countsOf s
-unfolding countsOf loads
-settled-counts s = ap (λ (b : Bounds). b .low) (as-worded s)
+module _ (s : Sheet) where
+  pub as-worded : settled (alone s) ≡ settleAllWorded (s .slots) (demandsOf s) (s .blowers) (dayBounds (s .slots) (s .blowers))
+  unfolding fullHigh
+  as-worded =
+      ap₂ (λ ds h. settleAll (s .slots) ds (s .blowers) (boundsUnder (s .slots) h)) (left-alone s) (room-alone s)
+      ∙ sym (settled-as-worded (s .slots) (s .blowers) (demandsOf s))
 
-module _ (s : Sheet) (can : canBePlanned s ≡ true) where
-  greedy : Greedy (s .slots) (demandsOf s) (countsOf s) (feedingsOf s)
-  unfolding feedingsOf countsOf
-  greedy = chosen-greedy (windows-demandsOf s) (length-countsOf s can) (loads-feasible (windows-demandsOf s) (possible s can) (s .blowers) (high s can))
-
-  pub feedings-chosen : (p : Schedule) → p ≡ feedingsOf s → ChosenByMethod s p
-  feedings-chosen p e =
-      subst (ChosenByMethod s) (sym e)
-      (record {
-        low-is-high = ap (λ (b : Bounds). b .low) (as-worded s) ∙ settled-low-is-high s can ∙ sym (ap (λ (b : Bounds). b .high) (as-worded s));
-        counts = feedings-load s can ∙ sym (settled-counts s);
-        chosen = subst (λ c. Greedy (s .slots) (demandsOf s) c (feedingsOf s)) (sym (settled-counts s)) greedy;
-      })
-
-  runs-settled : (k : ℕ) → 1 ≤ k → k ≤ s .blowers
-      → stretchesOn (stretchLines (s .blowers) (s .wake) (countsOf s)) k
-      ≡ runsWorded (s .slots) (demandsOf s) k (s .slots) 1 (boundsWorded (s .slots) (demandsOf s) (s .blowers) k (begun s))
-  unfolding countsOf
-  runs-settled k o l =
-      stretchesOn-lines (s .wake) (countsOf s) (s .blowers) k o l ∙ intervals-are-settled (windows-demandsOf s) (possible s can) (s .blowers) k o l
+  pub runs-worded : (k : ℕ) → k ≤ s .blowers
+      → runsOf (alone s) k ≡ runsWorded (s .slots) (demandsOf s) k (s .slots) 1 (boundsWorded (s .slots) (demandsOf s) (s .blowers) k (dayBounds (s .slots) (s .blowers)))
+  unfolding fullHigh
+  runs-worded k l =
+      ap₂ (λ ds h. settledRuns (s .slots) ds k (s .slots) 1 (boundsAtTurn (s .slots) ds (s .blowers) k (boundsUnder (s .slots) h))) (left-alone s) (room-alone s)
       ∙ sym (runs-as-worded (s .slots) (s .blowers) (demandsOf s) k l)
 
-  module _ (v : ValuesInRange s (length (s .jobs)) true) where
-    plan-by-method : ByMethod s (planLines (planOf s))
-    plan-by-method =
-        let c = settled-counts s in
-        record {
-          feedings = feedings-chosen _ (placing-on s v can);
-          feed-lines = feedPart-plan s ∙ ap (feedLines (s .slots) (tanks s)) (sym (placing-on s v can));
-          stretch-lines = stretchPart-plan s ∙ ap (stretchLines (s .blowers) (s .wake)) (sym c);
-          runs = λ k o l. ap (λ x. stretchesOn x k) (stretchPart-plan s) ∙ runs-settled k o l;
-          energy-is = head-plan s .0 ∙ ap (energy (s .blowers) (s .wake)) (sym c);
-          starts-are = head-plan s .1 ∙ ap (starts (s .blowers) (s .wake)) (sym c);
-        }
+-- A problem that can be planned -------------------------------------------------------------------------
 
-    -- the listing of a plan
-    pub by-method : (text : List ℕ) → text ≡ listingOf s → ByMethod s (linesOf text)
-    by-method text e = subst (ByMethod s) (sym (ap linesOf (e ∙ listing-plan s v can) ∙ lines-plan s v can)) plan-by-method
+module _ (p : Problem) (g : ProblemInRange p) (can : canBePlanned p ≡ true) where
+  -- the counts, as the calls' definitions have them
+  settled-counts : settled p .low ≡ settledCounts p
+  unfolding settledCounts loads
+  settled-counts = refl
 
--- Calls that plan, lent buffers that are long enough, a sheet with a sound placing ----------------------------------
+  greedy : Greedy (p .sheet .slots) (left p) (settledCounts p) (chosen (p .sheet .slots) (left p) (settledCounts p))
+  unfolding settledCounts
+  greedy = chosen-greedy (windows-left p g) (length-settledCounts p g can) (loads-feasible (windows-left p g) (possible p g can) (p .sheet .blowers) (room-below p g))
 
-module _ {own : List Refusal} {s : Sheet} (checks : OwnChecks own s) (formed : own ≡ []) (has : HasPlacing s) (short : Bool) (enough : short ≡ false) where
+  pub feedings-chosen : (q : Schedule) → q ≡ feedingsOf p → ChosenByMethod p q
+  unfolding feedingsOf countsOf
+  feedings-chosen q e =
+      subst (ChosenByMethod p) (sym e)
+      (record {
+        rest = chosen (p .sheet .slots) (left p) (settledCounts p);
+        with-kept = refl;
+        low-is-high = settled-low-is-high p g can;
+        counts = rest-load p g can ∙ sym settled-counts;
+        chosen = subst (λ c. Greedy (p .sheet .slots) (left p) c (chosen (p .sheet .slots) (left p) (settledCounts p))) (sym settled-counts) greedy;
+        whole = λ z. (feedings-whole p g can z, counts-whole p g can z ∙ sym settled-counts);
+      })
+
+  runs-settled : p .cut ≡ 0 → (k : ℕ) → 1 ≤ k → k ≤ p .sheet .blowers → stretchesOn (stretchLines (p .sheet .blowers) (p .sheet .wake) (countsOf p)) k ≡ runsOf p k
+  unfolding settledCounts
+  runs-settled z k o l =
+      ap (λ c. stretchesOn (stretchLines (p .sheet .blowers) (p .sheet .wake) c) k) (counts-whole p g can z)
+      ∙ stretchesOn-lines (p .sheet .wake) (settledCounts p) (p .sheet .blowers) k o l ∙ intervals-are-settled (windows-left p g) (possible p g can) (p .sheet .blowers) k o l
+
+  plan-by-method : ByMethod p (planLines (planWith (p .sheet) (feedingsOf p)))
+  unfolding countsOf
+  plan-by-method =
+      let s = p .sheet in
+      let q = feedingsOf p in
+      let on = placing-on s (g .values) q (feedings-are p g can) in
+      let c = ap (load (s .slots)) (sym on) in
+      record {
+        feedings = feedings-chosen _ on;
+        feed-lines = feedPart-plan s q ∙ ap (feedLines (s .slots) (tanks s)) (sym on);
+        stretch-lines = stretchPart-plan s q ∙ ap (stretchLines (s .blowers) (s .wake)) c;
+        runs = λ z k o l. ap (λ x. stretchesOn x k) (stretchPart-plan s q) ∙ runs-settled z k o l;
+        energy-is = head-plan s q .0 ∙ ap (energy (s .blowers) (s .wake)) c;
+        starts-are = head-plan s q .1 ∙ ap (starts (s .blowers) (s .wake)) c;
+      }
+
+  -- the listing of a plan
+  pub by-method : (text : List ℕ) → text ≡ listingOf p → ByMethod p (linesOf text)
+  by-method text e = subst (ByMethod p) (sym (lines-are p g can text e)) plan-by-method
+
+-- Calls that plan, lent buffers that are long enough, a problem with a placing ----------------------------------------
+
+module _ {own : List Refusal} (formed : own ≡ []) (p : Problem) (g : ProblemInRange p) (has : HasPlacing p) (short : Bool) (enough : short ≡ false) where
   abbrev r : Refusal
-  r = firstRefusal (planChecks own short s)
+  r = firstRefusal (planChecks own short p)
 
-  can : canBePlanned s ≡ true
-  can = sound-planned s (has .0) (has .1)
+  can : canBePlanned p ≡ true
+  can = may-planned p g (has .0) (has .1)
 
   pub number-is : r .number ≡ 0
-  number-is = number-planned checks formed short enough can
+  number-is = number-planned p formed short enough can
 
-  pub listed-by-method : (listing : List ℕ) → ByMethod s (linesOf (written (listedAnswer r s) (listingAfter r s listing)))
-  listed-by-method listing = by-method s can (checks .values formed) _ (written-listing checks formed short enough listing)
+  pub listed-by-method : (listing : List ℕ) → ByMethod p (linesOf (written (listedAnswer r (listingOf p)) (listingAfter r (listingOf p) listing)))
+  listed-by-method listing = by-method p g can _ (written-listing formed p g short enough listing)
 
-  pub marked-by-method : (grid : List ℕ) → ChosenByMethod s (placingIn s (gridAfter r s grid))
+  pub marked-by-method : (grid : List ℕ) → ChosenByMethod p (placingIn (p .sheet) (gridAfter r (gridFor p) grid))
   marked-by-method grid =
-      feedings-chosen s can _ (marked-feedings s (checks .values formed) can (gridAfter r s grid) grid (grid-written r s grid (writes-planned (r .number) number-is)))
+      feedings-chosen p g can _ (marked-feedings p g can (gridAfter r (gridFor p) grid) grid (grid-written r (gridFor p) grid (writes-planned (r .number) number-is)))
 
 -- two sheets that can be planned
-module _ (a b : List ℕ) (f : faults a ≡ []) (p : HasPlacing (sheetOf a)) (g : faults b ≡ []) (q : HasPlacing (sheetOf b)) where
-  abbrev s : Sheet
-  s = sheetOf a
+module _ (a b : List ℕ) (f : faults a ≡ []) (x : HasPlacing (alone (sheetOf a))) (g : faults b ≡ []) (y : HasPlacing (alone (sheetOf b))) where
+  abbrev p : Problem
+  p = alone (sheetOf a)
 
-  abbrev t : Sheet
-  t = sheetOf b
+  abbrev q : Problem
+  q = alone (sheetOf b)
+
+  can-p : canBePlanned p ≡ true
+  can-p = may-planned p (bytes-in-range a f) (x .0) (x .1)
+
+  can-q : canBePlanned q ≡ true
+  can-q = may-planned q (bytes-in-range b g) (y .0) (y .1)
 
   pub both-planned : compareRefusal a b ≡ record { number = 0; line = 0 }
-  unfolding compareRefusal heldFaults firstRefusal
-  both-planned = rw (f, sound-planned s (p .0) (p .1), g, sound-planned t (q .0) (q .1))
+  unfolding compareRefusal firstRefusal
+  both-planned = rw (f, can-p, g, can-q)
 
-  same-counts : countsOf s ≡ countsOf t → s .slots ≡ t .slots
-  same-counts e = sym (length-countsOf s (sound-planned s (p .0) (p .1))) ∙ ap length e ∙ length-countsOf t (sound-planned t (q .0) (q .1))
+  counts-p : settled p .low ≡ countsOf p
+  counts-p = settled-counts p (bytes-in-range a f) can-p ∙ sym (counts-whole p (bytes-in-range a f) can-p refl)
 
-  pub same-day : (sameDay s t ≡ true) ↔ ((s .slots ≡ t .slots) × (settled s .low ≡ settled t .low))
+  counts-q : settled q .low ≡ countsOf q
+  counts-q = settled-counts q (bytes-in-range b g) can-q ∙ sym (counts-whole q (bytes-in-range b g) can-q refl)
+
+  same-counts : countsOf p ≡ countsOf q → p .sheet .slots ≡ q .sheet .slots
+  same-counts e = sym (length-countsOf p (bytes-in-range a f) can-p) ∙ ap length e ∙ length-countsOf q (bytes-in-range b g) can-q
+
+  pub same-day : (sameDay p q ≡ true) ↔ ((p .sheet .slots ≡ q .sheet .slots) × (settled p .low ≡ settled q .low))
   unfolding sameDay
   same-day = (
-    λ e. let c = same-eq (countsOf s) (countsOf t) e in (same-counts c, settled-counts s ∙ c ∙ sym (settled-counts t)),
+    λ e. let c = same-eq (countsOf p) (countsOf q) e in (same-counts c, counts-p ∙ c ∙ sym counts-q),
     λ h.
-        let c : countsOf s ≡ countsOf t = sym (settled-counts s) ∙ h .1 ∙ settled-counts t in
-        ap (λ xs. same xs (countsOf t)) c ∙ same-self (countsOf t),
+        let c : countsOf p ≡ countsOf q = sym counts-p ∙ h .1 ∙ counts-q in
+        ap (λ xs. same xs (countsOf q)) c ∙ same-self (countsOf q),
   )

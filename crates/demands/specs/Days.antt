@@ -7,12 +7,12 @@ use mathlib.Core.List.{List, [], _∷_, map}
 use Prim.Native.Nat.{ℕ}
 use Prim.Native.String.{String}
 use lib.IntN.{ℤ, pos, negsuc}
-use Rattle.sheet.specs.Sheet.{sheetOf}
-use Rattle.sheet.specs.Calls.{tankLines, lookUp}
+use Rattle.checks.specs.Sheet.{sheetOf}
+use Rattle.lookup.specs.LookUp.{tankLines, lookUp}
 use Rattle.questions.specs.Text.{text}
 use Rattle.questions.specs.Calls.{shortfallOf, boundsOf}
-use Rattle.listing.specs.Lines.{Line, line}
-use Rattle.planning.specs.Planning.{countsOf}
+use Rattle.plan_lines.specs.Lines.{Line, line}
+use Rattle.planning.specs.Problem.{alone, countsOf}
 use Rattle.planning.specs.ReadListing.{linesOf, headLine, stretchPart, feedPart, billOn}
 use Rattle.program.specs.Program.{output}
 use Rattle.demands.specs.Meanings.{listings}
@@ -57,7 +57,7 @@ outputLines s = linesOf (output (text s))
 -- what the definitions answer
 abbrev pub answer : Question → Answer
 answer (outputFor s) = bytes (output (text s))
-answer (countsFor s) = numbers (countsOf (sheetOf (text s)))
+answer (countsFor s) = numbers (countsOf (alone (sheetOf (text s))))
 answer (energyFor s) = number (headLine (outputLines s) .a)
 answer (startsFor s) = number (headLine (outputLines s) .b)
 answer (stretchesFor s) = lines (stretchPart (outputLines s))

@@ -12,99 +12,111 @@ use mathlib.Core.Path.{_≡_, refl, sym, subst, _∙_}
 use mathlib.Core.Logic.{_⊎_, _↔_}
 use mathlib.Core.Bool.{false, _||_}
 use mathlib.Core.List.{List, []}
-use Prim.Native.Nat.{ℕ, _≤_}
+use Prim.Native.Nat.{ℕ, _*_, _≤_}
 use lib.ListN.{length}
-use Rattle.sheet.specs.Sheet.{sheetOf}
-use Rattle.sheet.specs.Checks.{faults}
-use Rattle.listing.specs.Sizes.{planBytes, gridBytes}
-use Rattle.planning.specs.Planning.{planRefusal, shortPlan, shortGrid, listedAnswer, unlistedAnswer, listingAfter, gridAfter, comparedOf}
-use Rattle.planning.specs.ReadListing.{written}
+use Rattle.checks.specs.Refusals.{noPlacing}
+use Rattle.checks.specs.Sheet.{Sheet, sheetOf}
+use Rattle.checks.specs.Checks.{faults}
+use Rattle.plan_lines.specs.Sizes.{planBytes, gridBytes}
+use Rattle.planning.specs.Problem.{alone, MayPlace, listingOf, gridFor}
+use Rattle.planning.specs.Planning.{planRefusalFor, planRefusal, shortPlan, shortGrid, listedAnswer, unlistedAnswer, listingAfter, gridAfter, comparedOf}
+use Rattle.planning.specs.ReadListing.{written, linesOf, headLine}
 use Rattle.planning.specs.CallAnswers.{room-plan, room-grid, neither}
 use Rattle.program.specs.Theorems.{program-writes, program-front}
 use Rattle.records.specs.declared.Ration.{Ration}
 use Rattle.records.specs.Records.{recordSheet, recordFaults}
-use Rattle.records.specs.Calls.{planRefusalOf}
 use Rattle.demands.specs.Answers.{programText}
-use Rattle.demands.specs.Outcome.{SoundPlacing, NoneSound, PlannedOrHeld, Outcome, placingIn, SamePlacing}
-use Rattle.demands.specs.AnswerLaws.{bytes-checked, records-checked}
-use Rattle.demands.specs.OutcomeLaws.{written-listing, outcome-of, marks-of}
+use Rattle.demands.specs.Outcome.{AloneIs, NoneSound, PlannedOrHeld, Outcome, placingIn, SamePlacing}
+use Rattle.demands.specs.AnswerLaws.{bytes-in-range, records-in-range, alone-is}
+use Rattle.demands.specs.OutcomeLaws.{written-listing, outcome-of, marks-of, high-alone}
 use Rattle.demands.specs.ComparisonLaws.{comparison-held-iff}
 
 pub record DemandThree : Type 0 where
   -- A sheet's bytes -------------------------------------------------------------------------------
 
-  pub plan : (b listing : List ℕ) → faults b ≡ [] → planBytes ≤ length listing → let s = sheetOf b in
-      let r = planRefusal b (shortPlan listing) in let a = listedAnswer r s in
-      Outcome s (a .number) (written a (listingAfter r s listing))
+  pub plan : (b listing : List ℕ) → let p = alone (sheetOf b) in faults b ≡ [] → planBytes ≤ length listing →
+      let r = planRefusal b (shortPlan listing) in let a = listedAnswer r (listingOf p) in
+      Outcome p (a .number) (written a (listingAfter r (listingOf p) listing))
   -- the feedings marked in the placing buffer are those on the lines
-  pub plan-both : (b listing placing : List ℕ) → faults b ≡ [] → planBytes ≤ length listing → gridBytes ≤ length placing → let s = sheetOf b in
-      let r = planRefusal b (shortPlan listing || shortGrid placing) in let a = listedAnswer r s in
-      Outcome s (a .number) (written a (listingAfter r s listing))
-      × (a .number ≡ 0 → SamePlacing s (written a (listingAfter r s listing)) (gridAfter r s placing))
+  pub plan-both : (b listing placing : List ℕ) → let s = sheetOf b in let p = alone s in faults b ≡ [] → planBytes ≤ length listing → gridBytes ≤ length placing →
+      let r = planRefusal b (shortPlan listing || shortGrid placing) in let a = listedAnswer r (listingOf p) in
+      Outcome p (a .number) (written a (listingAfter r (listingOf p) listing))
+      × (a .number ≡ 0 → SamePlacing s (written a (listingAfter r (listingOf p) listing)) (gridAfter r (gridFor p) placing))
   -- a call that is lent a placing buffer alone marks a sound placing, that which `plan` lists for the same sheet
-  pub plan-placing : (b placing : List ℕ) → faults b ≡ [] → gridBytes ≤ length placing → let s = sheetOf b in
+  pub plan-placing : (b placing : List ℕ) → let s = sheetOf b in let p = alone s in faults b ≡ [] → gridBytes ≤ length placing →
       let r = planRefusal b (shortGrid placing) in let a = unlistedAnswer r in
-      PlannedOrHeld s (a .number)
-      × (a .number ≡ 0 → SoundPlacing s (placingIn s (gridAfter r s placing)))
+      PlannedOrHeld p (a .number)
+      × (a .number ≡ 0 → MayPlace p (placingIn s (gridAfter r (gridFor p) placing)))
       × (a .number ≡ 0 → (listing : List ℕ) → planBytes ≤ length listing → let q = planRefusal b (shortPlan listing) in
-      SamePlacing s (written (listedAnswer q s) (listingAfter q s listing)) (gridAfter r s placing))
-  pub plan-number : (b : List ℕ) → faults b ≡ [] → PlannedOrHeld (sheetOf b) (unlistedAnswer (planRefusal b false) .number)
+      SamePlacing s (written (listedAnswer q (listingOf p)) (listingAfter q (listingOf p) listing)) (gridAfter r (gridFor p) placing))
+  pub plan-number : (b : List ℕ) → faults b ≡ [] → PlannedOrHeld (alone (sheetOf b)) (unlistedAnswer (planRefusal b false) .number)
   -- a comparison is held exactly where its first sheet is well-formed and has no sound placing, or the first can be
   -- planned and that holds of the second
-  pub compare : (a b : List ℕ) → (comparedOf a b .number ≡ 12)
-      ↔ ((faults a ≡ []) × (NoneSound (sheetOf a) ⊎ ((¬ NoneSound (sheetOf a)) × (faults b ≡ []) × NoneSound (sheetOf b))))
+  pub compare : (a b : List ℕ) → let p = alone (sheetOf a) in let q = alone (sheetOf b) in
+      (comparedOf a b .number ≡ noPlacing) ↔ ((faults a ≡ []) × (NoneSound p ⊎ ((¬ NoneSound p) × (faults b ≡ []) × NoneSound q)))
   -- Rations lent as records -----------------------------------------------------------------------
 
-  pub plan-rations : (slots blowers wake : ℕ) (rations : List Ration) (listing : List ℕ) → let s = recordSheet slots blowers wake rations in
-      recordFaults s ≡ [] → planBytes ≤ length listing → let r = planRefusalOf s (shortPlan listing) in let a = listedAnswer r s in
-      Outcome s (a .number) (written a (listingAfter r s listing))
-  pub plan-rations-both : (slots blowers wake : ℕ) (rations : List Ration) (listing placing : List ℕ) → let s = recordSheet slots blowers wake rations in
+  pub plan-rations : (slots blowers wake : ℕ) (rations : List Ration) (listing : List ℕ) → let s = recordSheet slots blowers wake rations in let p = alone s in
+      recordFaults s ≡ [] → planBytes ≤ length listing → let r = planRefusalFor (recordFaults s) s (shortPlan listing) in let a = listedAnswer r (listingOf p) in
+      Outcome p (a .number) (written a (listingAfter r (listingOf p) listing))
+  pub plan-rations-both : (slots blowers wake : ℕ) (rations : List Ration) (listing placing : List ℕ) → let s = recordSheet slots blowers wake rations in let p = alone s in
       recordFaults s ≡ [] → planBytes ≤ length listing → gridBytes ≤ length placing →
-      let r = planRefusalOf s (shortPlan listing || shortGrid placing) in let a = listedAnswer r s in
-      Outcome s (a .number) (written a (listingAfter r s listing))
-      × (a .number ≡ 0 → SamePlacing s (written a (listingAfter r s listing)) (gridAfter r s placing))
+      let r = planRefusalFor (recordFaults s) s (shortPlan listing || shortGrid placing) in let a = listedAnswer r (listingOf p) in
+      Outcome p (a .number) (written a (listingAfter r (listingOf p) listing))
+      × (a .number ≡ 0 → SamePlacing s (written a (listingAfter r (listingOf p) listing)) (gridAfter r (gridFor p) placing))
   -- The program -----------------------------------------------------------------------------------
 
   -- its whole output is the listing
-  pub program : (b : List ℕ) → faults b ≡ [] → Outcome (sheetOf b) (planRefusal b false .number) (programText b)
+  pub program : (b : List ℕ) → faults b ≡ [] → Outcome (alone (sheetOf b)) (planRefusal b false .number) (programText b)
+  -- A sheet planned alone -------------------------------------------------------------------------
+
+  -- its rations, and m blowers in every slot; any sound placing may be taken
+  pub alone-is : (s : Sheet) → AloneIs s
+  -- the sum of high over the slots shown is |Q| × m
+  pub high-is : (s : Sheet) (number : ℕ) (listing : List ℕ) → Outcome (alone s) number listing → number ≡ noPlacing
+      → headLine (linesOf listing) .d ≡ headLine (linesOf listing) .b * s .blowers
 
 -- The theorem -------------------------------------------------------------------------------------
 
 pub demand-three : DemandThree
-unfolding planRefusal planRefusalOf listedAnswer unlistedAnswer
+unfolding planRefusal listedAnswer unlistedAnswer
 demand-three =
     record {
       plan = λ b listing formed l.
-          let c = bytes-checked b in
+          let g = bytes-in-range b formed in
           let e = room-plan listing l in
-          outcome-of c formed (shortPlan listing) e _ (written-listing c formed (shortPlan listing) e listing);
+          outcome-of formed _ g (shortPlan listing) e _ (written-listing formed _ g (shortPlan listing) e listing);
       plan-both = λ b listing placing formed l k.
-          let c = bytes-checked b in
+          let g = bytes-in-range b formed in
+          let short = shortPlan listing || shortGrid placing in
           let e = neither (shortPlan listing) (shortGrid placing) (room-plan listing l) (room-grid placing k) in
-          let w = written-listing c formed (shortPlan listing || shortGrid placing) e listing in
-          (outcome-of c formed (shortPlan listing || shortGrid placing) e _ w, marks-of c formed (shortPlan listing || shortGrid placing) e _ placing w);
+          let w = written-listing formed _ g short e listing in
+          (outcome-of formed _ g short e _ w, marks-of formed _ g short e _ placing w);
       plan-placing = λ b placing formed k.
-          let c = bytes-checked b in
-          let s = sheetOf b in
+          let p = alone (sheetOf b) in
+          let g = bytes-in-range b formed in
           let e = room-grid placing k in
-          let o = outcome-of c formed (shortGrid placing) e _ refl in (
+          let o = outcome-of formed p g (shortGrid placing) e _ refl in (
             o .planned-or-held,
-            λ n. subst (SoundPlacing s) (sym (marks-of c formed (shortGrid placing) e _ placing refl n)) (o .plan n .sound),
+            λ n. subst (MayPlace p) (sym (marks-of formed p g (shortGrid placing) e _ placing refl n)) (o .plan n .sound),
             λ n listing l.
-                marks-of c formed (shortGrid placing) e _ placing (written-listing c formed (shortPlan listing) (room-plan listing l) listing) n,
+                marks-of formed p g (shortGrid placing) e _ placing (written-listing formed p g (shortPlan listing) (room-plan listing l) listing) n,
           );
-      plan-number = λ b formed. outcome-of (bytes-checked b) formed false refl _ refl .planned-or-held;
+      plan-number = λ b formed. outcome-of formed _ (bytes-in-range b formed) false refl _ refl .planned-or-held;
       compare = comparison-held-iff;
       plan-rations = λ slots blowers wake rations listing formed l.
-          let c = records-checked (recordSheet slots blowers wake rations) in
+          let g = records-in-range (recordSheet slots blowers wake rations) formed in
           let e = room-plan listing l in
-          outcome-of c formed (shortPlan listing) e _ (written-listing c formed (shortPlan listing) e listing);
+          outcome-of formed _ g (shortPlan listing) e _ (written-listing formed _ g (shortPlan listing) e listing);
       plan-rations-both = λ slots blowers wake rations listing placing formed l k.
-          let c = records-checked (recordSheet slots blowers wake rations) in
+          let g = records-in-range (recordSheet slots blowers wake rations) formed in
+          let short = shortPlan listing || shortGrid placing in
           let e = neither (shortPlan listing) (shortGrid placing) (room-plan listing l) (room-grid placing k) in
-          let w = written-listing c formed (shortPlan listing || shortGrid placing) e listing in
-          (outcome-of c formed (shortPlan listing || shortGrid placing) e _ w, marks-of c formed (shortPlan listing || shortGrid placing) e _ placing w);
+          let w = written-listing formed _ g short e listing in
+          (outcome-of formed _ g short e _ w, marks-of formed _ g short e _ placing w);
       program = λ b formed.
-          let c = bytes-checked b in
-          outcome-of c formed false refl (programText b) (program-front b ∙ program-writes b formed [] ∙ written-listing c formed false refl []);
+          let g = bytes-in-range b formed in
+          outcome-of formed _ g false refl (programText b) (program-front b ∙ program-writes b formed [] ∙ written-listing formed _ g false refl []);
+      alone-is = alone-is;
+      high-is = high-alone;
     }

@@ -8,16 +8,16 @@ use native.Mathlib.Omega.{arith}
 use lib.Dec.{eqb}
 use lib.ListN.{length, getD, length-append, length-map, List·getD-append}
 use Rattle.common.specs.Lists.{range, flatMap}
-use Rattle.sheet.specs.Limits.{maxSlots, maxRations}
-use Rattle.sheet.specs.Calls.{padded, over}
-use Rattle.sheet.specs.ChunkLaws.{getD-append-past}
-use Rattle.sheet.specs.ReadSteps.{length-padded}
-use Rattle.placing.specs.Slots.{Slots, has}
-use Rattle.placing.specs.Schedules.{Schedule}
-use Rattle.placing.specs.Tabulate.{getD-map-below}
-use Rattle.placing.specs.AsFunctions.{Rows}
-use Rattle.listing.specs.Sizes.{gridBytes}
-use Rattle.listing.specs.Text.{bytesOf, rowBytes, gridOf}
+use Rattle.checks.specs.Limits.{maxSlots, maxRations}
+use Rattle.common.specs.Buffers.{padded, over}
+use Rattle.common.specs.ChunkLaws.{getD-append-past}
+use Rattle.common.specs.BufferLaws.{length-padded}
+use Rattle.schedules.specs.Slots.{Slots, has}
+use Rattle.schedules.specs.Schedules.{Schedule}
+use Rattle.schedules.specs.Tabulate.{getD-map-below}
+use Rattle.schedules.specs.AsFunctions.{Rows}
+use Rattle.plan_lines.specs.Sizes.{gridBytes}
+use Rattle.plan_lines.specs.Text.{bytesOf, rowBytes, gridOf}
 use Rattle.planning.specs.ReadListing.{placingMarked}
 use Rattle.planning.specs.ListLaws.{map-range-cong, map-getD}
 

@@ -1,17 +1,19 @@
 -- Whoever says `unfolding listings` has every definition computed that leads from a sheet's bytes to its listing and
 -- back from a listing to its lines: for tables of days. Assumes nothing.
-use Rattle.sheet.specs.Field.{leading, columns, writeField}
-use Rattle.sheet.specs.Sheet.{writeLine}
-use Rattle.sheet.specs.Calls.{padded}
+use Rattle.line.specs.Field.{leading, columns, writeField}
+use Rattle.line.specs.Line.{writeLine}
+use Rattle.common.specs.Buffers.{padded}
 use Rattle.questions.specs.Meanings.{answers}
-use Rattle.stretches.specs.Method.{onRun, idleFor, busyFor, longest, idleRun, busyRun, settle, settleAll, loads}
-use Rattle.stretches.specs.Feedings.{prefer, cells, withCounts, chosen}
-use Rattle.stretches.specs.Intervals.{join, runs, intervals, size}
-use Rattle.energy.specs.Energy.{atEnd, state, onIn, onSlots, startAt, startsFrom, startsOf, starts, on, energy}
-use Rattle.bill.specs.Bill.{rates, hourOf, rateOf, onRate, onCharge, startCharge, chargeFrom, blowerCharge, listed, listedFor, charge, centsOf, amountOf}
-use Rattle.listing.specs.Lines.{stretchLine, blowerLines, stretchLines, partAt, fedIn, feedLine, slotLines, feedLines, billLine, planLines, membersFrom, memberLines, heldLines}
-use Rattle.listing.specs.Text.{writeLines, planText, heldText, refusalText}
-use Rattle.planning.specs.Planning.{canBePlanned, countsOf, feedingsOf, planOf, shownSet, listingOf, heldFaults, planRefusal, writes}
+use Rattle.method.specs.Method.{onRun, idleFor, busyFor, longest, idleRun, busyRun, settle, settleAll, loads}
+use Rattle.method.specs.Feedings.{prefer, cells, withCounts, chosen}
+use Rattle.method.specs.Intervals.{join, runs, intervals, size}
+use Rattle.energy.specs.Energy.{atEnd, state, listed, listedFor, onIn, onSlots, startAt, startsFrom, startsOf, starts, on, energy}
+use Rattle.bill.specs.Bill.{rates, hourOf, rateOf, onRate, onCharge, startCharge, chargeFrom, blowerCharge, charge, centsOf, amountOf}
+use Rattle.plan_lines.specs.Lines.{stretchLine, blowerLines, stretchLines, partAt, fedIn, feedLine, slotLines, feedLines, billLine, planLines, membersFrom, memberLines, heldLines}
+use Rattle.plan_lines.specs.Text.{writeLines, planText, heldText, refusalText}
+use Rattle.planning.specs.Planning.{planRefusal, writes}
+use Rattle.schedules.specs.Rest.{restDemands, restHigh, together, noFeedings}
+use Rattle.planning.specs.Problem.{left, room, canBePlanned, settledCounts, feedingsOf, countsOf, shownSet, planWith, listingOf}
 use Rattle.planning.specs.ReadListing.{lineIn, linesOf, headLine, stretchPart, feedPart, billOn}
 use Rattle.program.specs.Program.{output}
 
@@ -22,5 +24,5 @@ plans = tt
 
 -- from text to text, and back to lines
 unfoldable pub listings : Unit {0}
-unfolding answers plans leading columns writeField writeLine padded stretchLine blowerLines stretchLines partAt fedIn feedLine slotLines feedLines billLine planLines membersFrom memberLines heldLines writeLines planText heldText refusalText canBePlanned countsOf feedingsOf planOf shownSet listingOf heldFaults planRefusal writes output lineIn linesOf headLine stretchPart feedPart billOn
+unfolding answers plans leading columns writeField writeLine padded stretchLine blowerLines stretchLines partAt fedIn feedLine slotLines feedLines billLine planLines membersFrom memberLines heldLines writeLines planText heldText refusalText restDemands restHigh together noFeedings left room canBePlanned settledCounts feedingsOf countsOf planWith shownSet listingOf planRefusal writes output lineIn linesOf headLine stretchPart feedPart billOn
 listings = tt

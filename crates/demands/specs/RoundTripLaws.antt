@@ -8,19 +8,21 @@ use lib.Dec.{ltb}
 use lib.ListN.{length, take, length-map}
 use borrow.Author.Tests.{eq-eqb, le-ltb}
 use Rattle.sheet.specs.declared.Reading.{Reading}
-use Rattle.sheet.specs.Limits.{lineBytes, fields}
-use Rattle.sheet.specs.Sheet.{Job, Sheet, sheetOf, writeSheet, numbersOf, jobsOf}
-use Rattle.sheet.specs.Checks.{fault, firstRefusal, faults}
-use Rattle.sheet.specs.Calls.{accepted, readingOf, writeRefusal, sheetFrom, over, writtenOf, bufferAfter}
-use Rattle.sheet.specs.FaultLaws.{append-nil-parts, numbered-valueFaults}
-use Rattle.sheet.specs.CallLaws.{readingOf-accepted, rationsRead-accepted, take-over}
-use Rattle.sheet.specs.NumbersLaws.{jobsOf-numbersOf}
-use Rattle.sheet.specs.SheetLaws.{length-writeSheet}
-use Rattle.sheet.specs.WellFormedLaws.{wellFormed-faults, valueFaults-wellFormed}
+use Rattle.checks.specs.Refusals.{shortBuffer}
+use Rattle.line.specs.Layout.{lineBytes, fields}
+use Rattle.checks.specs.Sheet.{Job, Sheet, sheetOf, writeSheet, numbersOf, jobsOf, sheetFrom}
+use Rattle.checks.specs.Checks.{fault, firstRefusal, faults}
+use Rattle.sheet.specs.Calls.{accepted, readingOf, writeRefusal, writeRefusalFor, writtenOf, bufferAfter}
+use Rattle.common.specs.Buffers.{over}
+use Rattle.checks.specs.FaultLaws.{append-nil-parts, numbered-valueFaults}
+use Rattle.sheet.specs.CallLaws.{readingOf-accepted, rationsRead-accepted}
+use Rattle.common.specs.BufferLaws.{take-over}
+use Rattle.checks.specs.NumbersLaws.{jobsOf-numbersOf}
+use Rattle.checks.specs.SheetLaws.{length-writeSheet}
+use Rattle.checks.specs.WellFormedLaws.{wellFormed-faults, valueFaults-wellFormed}
 use Rattle.sheet.specs.Theorems.{read-written, written-read, read-written-again, written-read-again}
 use Rattle.records.specs.declared.Ration.{Ration}
 use Rattle.records.specs.Records.{jobOf, recordSheet, recordFaults}
-use Rattle.records.specs.Calls.{writeRefusalOf}
 use Rattle.demands.specs.AnswerLaws.{numbered-one}
 
 pub read-again : (b out : List ℕ) → faults b ≡ [] → length b ≤ length out → let v = readingOf b in let numbers = take (fields * v .rations) (v .numbers) in
@@ -33,15 +35,15 @@ read-again b out e l =
 
 -- an accepted sheet that is read, and written again from records with the numbers read
 pub rations-read-again : (b out : List ℕ) (rations : List Ration) → faults b ≡ [] → length b ≤ length out → let v = readingOf b in
-    let s = recordSheet (v .slots) (v .blowers) (v .wake) rations in let r = writeRefusalOf s (length out) in
+    let s = recordSheet (v .slots) (v .blowers) (v .wake) rations in let r = writeRefusalFor (recordFaults s) s (length out) in
     numbersOf (s .jobs) ≡ take (fields * v .rations) (v .numbers)
     → (writtenOf r s .number ≡ 0) × (writtenOf r s .length ≡ length b) × (bufferAfter r s out ≡ over b out)
-unfolding recordSheet recordFaults writeRefusalOf firstRefusal accepted writtenOf bufferAfter
+unfolding recordSheet recordFaults writeRefusalFor firstRefusal accepted writtenOf bufferAfter
 rations-read-again b out rations f l h = subst Again (sym same-sheet) whole
   where
     Again : Sheet → Type 0
     Again s =
-        let r = writeRefusalOf s (length out) in (writtenOf r s .number ≡ 0) × (writtenOf r s .length ≡ length b) × (bufferAfter r s out ≡ over b out)
+        let r = writeRefusalFor (recordFaults s) s (length out) in (writtenOf r s .number ≡ 0) × (writtenOf r s .length ≡ length b) × (bufferAfter r s out ≡ over b out)
 
     e : readingOf b ≡ accepted (sheetOf b)
     e = readingOf-accepted b f
@@ -85,23 +87,23 @@ values-again slots blowers wake n numbers out z =
     )
 
 -- a call on records that writes has accepted its values
-accepted-values : (s : Sheet) (size : ℕ) → writeRefusalOf s size .number ≡ 0 → recordFaults s ≡ []
-unfolding writeRefusalOf recordFaults
+accepted-values : (s : Sheet) (size : ℕ) → writeRefusalFor (recordFaults s) s size .number ≡ 0 → recordFaults s ≡ []
+unfolding writeRefusalFor recordFaults
 accepted-values s size z =
     let own = recordFaults s in
     let need = lineBytes * suc (length (s .jobs)) in
-    append-nil-parts own (fault 10 0 (ltb size need))
+    append-nil-parts own (fault shortBuffer 0 (ltb size need))
     (numbered-one own (numbered-valueFaults s (length (s .jobs)) true) 10 (ltb size need) (omega arith) z) .0
 
 pub rations-again : (slots blowers wake : ℕ) (rations : List Ration) (out : List ℕ) → let s = recordSheet slots blowers wake rations in
-    let r = writeRefusalOf s (length out) in let v = readingOf (take (writtenOf r s .length) (bufferAfter r s out)) in
+    let r = writeRefusalFor (recordFaults s) s (length out) in let v = readingOf (take (writtenOf r s .length) (bufferAfter r s out)) in
     writtenOf r s .number ≡ 0
     → (v .number ≡ 0) × (v .slots ≡ slots) × (v .blowers ≡ blowers) × (v .wake ≡ wake) × (v .rations ≡ length rations)
     × (take (fields * length rations) (v .numbers) ≡ numbersOf (s .jobs))
 unfolding accepted recordSheet recordFaults writtenOf bufferAfter
 rations-again slots blowers wake rations out z =
     let s = recordSheet slots blowers wake rations in
-    let r = writeRefusalOf s (length out) in
+    let r = writeRefusalFor (recordFaults s) s (length out) in
     let e : readingOf (take (writtenOf r s .length) (bufferAfter r s out)) ≡ accepted s =
     rw (eq-eqb (r .number) 0 z) (ap readingOf (take-over (writeSheet s) out) ∙ written-read s (accepted-values s (length out) z)) in
     let n : length (s .jobs) ≡ length rations = length-map rations jobOf in (
