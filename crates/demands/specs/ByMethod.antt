@@ -1,6 +1,6 @@
 -- What demand 2 asks of one plan: that the feedings, and the lines of the listing, are those of Parallel Left-to-Right.
--- All is said of a problem (Problem.antt of `planning`). The idle step sets high to the smaller of itself and k − 1; for
--- a sheet planned alone, where no high begins below m, that is the step as document 01 words it (`worded` of
+-- All is said of a problem (Problem.antt of `planning`). The idle step sets high to the smaller of itself and k − 1;
+-- for a sheet planned alone, where no high begins below m, that is the step as document 01 words it (`worded` of
 -- DemandTwo.antt). Definitions only. Assumes nothing.
 use mathlib.Core.Path.{_≡_}
 use mathlib.Core.List.{List}

@@ -1,7 +1,7 @@
 -- What demand 3 asks of one call: first its words, as document 01 explains them, then what is asked of the number that
--- a planning call gives, the lines of the listing in its plan buffer and the bytes of its placing buffer. All is said of
--- a problem (Problem.antt of `planning`): for a sheet planned alone what is left is what its rations ask, the room left
--- is m in every slot, and any sound placing may be taken (`AloneIs`, a field of each demand). ReadListing.antt of
+-- a planning call gives, the lines of the listing in its plan buffer and the bytes of its placing buffer. All is said
+-- of a problem (Problem.antt of `planning`): for a sheet planned alone what is left is what its rations ask, the room
+-- left is m in every slot, and any sound placing may be taken (`AloneIs`, a field of each demand). ReadListing.antt of
 -- `planning` says how lines and bytes are read. Nothing here says how a plan is found; that the calls meet it is demand
 -- 3, DemandThree.antt. Definitions only. Assumes nothing.
 use mathlib.Core.Path.{_≡_}

@@ -21,7 +21,8 @@ pub record Skipped (s : List ℕ) (from end r : ℕ) : Type 0 where
   pub left : parse (part from end s) ≡ parse (part r end s)
   pub stops : r < end → getD s r 0 ≢ blank
 
--- digits may be read from one place to an end after a number v: with them the number stays below 10 to the power of the width
+-- digits may be read from one place to an end after a number v: with them the number stays below 10 to the power of the
+-- width
 pub record CanAdd (s : List ℕ) (from end v : ℕ) : Type 0 where
   pub order : from ≤ end
   pub within : end ≤ length s

@@ -14,8 +14,8 @@ use Rattle.lookup.specs.LookUpLaws.{lookUp-accepted, lookUp-refused, fau
 use Rattle.lookup.specs.FindLaws.{AllHave, NoneHas, tankLines-none, tankLines-some}
 use Rattle.lookup.specs.FindSteps.{between, before-or-past, place-part}
 
--- A look-up gives all lines of the tank, as one part of the sheet: those from line f up to, not including, line a, the head line
--- being line 0. No other line has the tank (`AllHave` and `NoneHas`, of FindLaws, are over the same lines).
+-- A look-up gives all lines of the tank, as one part of the sheet: those from line f up to, not including, line a, the
+-- head line being line 0. No other line has the tank (`AllHave` and `NoneHas`, of FindLaws, are over the same lines).
 pub record IsLinesOf (b : List ℕ) (tank f a : ℕ) : Type 0 where
   pub first : 1 ≤ f
   pub some : f < a

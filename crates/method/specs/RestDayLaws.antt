@@ -72,7 +72,7 @@ module _ {slots c : ℕ} {ds : List Demand} {high : List ℕ} {kept : Schedule} 
               meets-same (load slots p) (load slots q) j (busyIn rest j t) t (sym (load-late t i n)) (subst (λ x. Meets (load slots p) j x t) (late-busy j t i n) (f j t i settled))
           go (inr n) = subst (λ x. Meets (load slots q) j x t) (sym (idle n)) (omega (arith, load-early t i n))
 
-  -- whichever stretch of the whole day stops at slot c or later and before the day's end, no such placing that keeps all
-  -- stretches settled before it carries it one slot further
+  -- whichever stretch of the whole day stops at slot c or later and before the day's end, no such placing that keeps
+  -- all stretches settled before it carries it one slot further
   pub whole-stops : (m : ℕ) → StretchesStop slots m (restDemands slots c ds kept) (replicate slots 0) (restHigh slots c high) rest → StretchesStopFrom slots m c (MayBe slots c ds high kept) whole
   whole-stops m stop = stretches-stop-from whole h (transfer m (stops-at rest r (λ k v a l i b d. stop k v a l i d)))

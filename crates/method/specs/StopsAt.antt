@@ -1,5 +1,5 @@
--- That a stretch stops only where it must, slot by slot: the same demand as `StretchesStop`, without stretches, and from
--- a slot on (request 112). `May` is what is asked of a placing. Definitions only. Assumes nothing.
+-- That a stretch stops only where it must, slot by slot: the same demand as `StretchesStop`, without stretches, and
+-- from a slot on (request 112). `May` is what is asked of a placing. Definitions only. Assumes nothing.
 use mathlib.Core.Path.{_≡_}
 use mathlib.Core.Logic.{_⊎_}
 use mathlib.Core.Bool.{Bool, false, not}

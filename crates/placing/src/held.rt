@@ -9,8 +9,8 @@ ghost use Rattle.common.specs.Buffers.{padded};
 ghost use Rattle.theory.specs.SumsOver.{pick};
 ghost use Rattle.placing.specs.Represents.{markedLoads, markedHighs};
 
-// The blowers in every slot of the day, into bytes that are 0; those past its end stay 0. The bytes are lent, so that they
-// are not copied on the way back.
+// The blowers in every slot of the day, into bytes that are 0; those past its end stay 0. The bytes are lent, so that
+// they are not copied on the way back.
 pub fn set_highs(high: &mut [u8; 96], slots: usize, blowers: u8)
     requires { ⌜ (slots ≤ maxSlots) × (now high ≡ replicate maxSlots 0) ⌝ }
     ensures { λ _. ⌜ now (high .exit) ≡ padded maxSlots (replicate slots blowers) ⌝ }

@@ -1,6 +1,7 @@
 -- The planning layer's theorems, for every problem in range: its listing is read back to its lines and fits the plan
 -- buffer, energy and starts fit their fields; a well-formed sheet planned alone is such a problem. Here are the
--- statements; the law files have the proofs. What the calls answer altogether is in the crate `demands`. Assumes nothing.
+-- statements; the law files have the proofs. What the calls answer altogether is in the crate `demands`. Assumes
+-- nothing.
 use mathlib.Core.Path.{_≡_, refl, sym, ap, ap₂, _∙_}
 use mathlib.Core.Bool.{Bool, true, false}
 use mathlib.Core.List.{List, [], _++_}

@@ -162,8 +162,9 @@ pub fn plan_number_of(sheet: Reading) -> Planned
     refuse(number_of(day.held), 0)
 }
 
-// Plans a sheet, with a plan buffer lent: number 0 and the length of the listing of the plan, or 12 and that of the listing of the held sheet, at the front of
-// `listing`, whose other bytes keep their values; or the number and the line of the first other refusal, and nothing written.
+// Plans a sheet, with a plan buffer lent: number 0 and the length of the listing of the plan, or 12 and that of the
+// listing of the held sheet, at the front of `listing`, whose other bytes keep their values; or the number and the line
+// of the first other refusal, and nothing written.
 pub fn plan(b: &[u8], listing: &mut [u8]) -> Planned
     ensures { λ r. ⌜ r ≡ listedAnswer (planRefusal (now (b .entry)) (shortPlan (now (listing .entry)))) (listingOf (alone (sheetOf (now (b .entry))))) ⌝ }
     ensures { λ _. ⌜ now (listing .exit) ≡ listingAfter (planRefusal (now (b .entry)) (shortPlan (now (listing .entry)))) (listingOf (alone (sheetOf (now (b .entry))))) (now (listing .entry)) ⌝ }
@@ -171,8 +172,8 @@ pub fn plan(b: &[u8], listing: &mut [u8]) -> Planned
     plan_of(sheet::read(b), listing)
 }
 
-// Plans a sheet, with a placing buffer lent: the number and the line as `plan` gives them, and length 0; the placing at the front of `placing`, all 0 where the
-// sheet is held for want of blowers, and nothing written on any other refusal.
+// Plans a sheet, with a placing buffer lent: the number and the line as `plan` gives them, and length 0; the placing at
+// the front of `placing`, all 0 where the sheet is held for want of blowers, and nothing written on any other refusal.
 pub fn plan_placing(b: &[u8], placing: &mut [u8]) -> Planned
     ensures { λ r. ⌜ r ≡ unlistedAnswer (planRefusal (now (b .entry)) (shortGrid (now (placing .entry)))) ⌝ }
     ensures { λ _. ⌜ now (placing .exit) ≡ gridAfter (planRefusal (now (b .entry)) (shortGrid (now (placing .entry)))) (gridFor (alone (sheetOf (now (b .entry))))) (now (placing .entry)) ⌝ }

@@ -1,5 +1,5 @@
--- The call of `read_rations` as one step of a walk: the token and one copy of what the slice of records owns are handed over, and the token and the reading come back.
--- Each call on a lent slice of records begins with it. Assumes nothing.
+-- The call of `read_rations` as one step of a walk: the token and one copy of what the slice of records owns are handed
+-- over, and the token and the reading come back. Each call on a lent slice of records begins with it. Assumes nothing.
 use mathlib.Core.Path.{_≡_, refl}
 use mathlib.Core.List.{List, [], _∷_}
 use Prim.Native.Nat.{ℕ, _<_, _^_}

@@ -81,8 +81,8 @@ fn refuse(r: Refusal) -> Reading
     }
 }
 
-// Reads the bytes of a sheet: number 0 and its numbers, or the number and the line of the first refusal and zeros. Nothing lent is changed. It costs one
-// pass over the bytes for the form and one for the values.
+// Reads the bytes of a sheet: number 0 and its numbers, or the number and the line of the first refusal and zeros.
+// Nothing lent is changed. It costs one pass over the bytes for the form and one for the values.
 pub fn read(b: &[u8]) -> Reading
     ensures { λ r. ⌜ r ≡ readingOf (now (b .entry)) ⌝ }
 {
@@ -130,8 +130,8 @@ fn padded_numbers(numbers: &[u32]) -> [u32; 256]
 }
 
 // Reads a sheet from its head line's numbers and the flat numbers of its rations, four for each: number 0 and these
-// numbers, or the number and the line of the first refusal and zeros. Where none applies it is what `read` gives for the
-// bytes of that sheet, without the bytes.
+// numbers, or the number and the line of the first refusal and zeros. Where none applies it is what `read` gives for
+// the bytes of that sheet, without the bytes.
 pub fn read_numbers(slots: u32, blowers: u32, wake: u32, rations: u32, numbers: &[u32]) -> Reading
     ensures { λ r. ⌜ r ≡ readingFrom (flatFaults (sheetFrom slots blowers wake (now (numbers .entry))) rations (now (numbers .entry))) (sheetFrom slots blowers wake (now (numbers .entry))) ⌝ }
 {

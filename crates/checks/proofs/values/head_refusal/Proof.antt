@@ -1,4 +1,5 @@
--- `checks::values::head_refusal` meets its contract. Each return rewrites with the tests that led there. Assumes nothing.
+-- `checks::values::head_refusal` meets its contract. Each return rewrites with the tests that led there. Assumes
+-- nothing.
 use borrow.Author.Tests.{lt-ltb, le-ltb}
 use Rattle.checks.specs.Checks.{firstRefusal, outside, headFaults}
 use Rattle.checks.proofs.values.head_refusal.Statement.{statement}

@@ -1,4 +1,5 @@
--- `checks::values::rations_refusal` meets its contract. What is refused of the rations from one on, after the tank and the last slot before it, is what is refused of all. Assumes nothing.
+-- `checks::values::rations_refusal` meets its contract. What is refused of the rations from one on, after the tank and
+-- the last slot before it, is what is refused of all. Assumes nothing.
 use mathlib.Core.Path.{_≡_, sym, _∙_}
 use Prim.Native.Nat.{_+_, _*_, _≤_, _-_}
 use lib.ListN.{length, take}

@@ -1,4 +1,5 @@
--- `feedings::candidates::fed_marked` meets its contract. The loop has the rations of the marked slots passed. Assumes nothing.
+-- `feedings::candidates::fed_marked` meets its contract. The loop has the rations of the marked slots passed. Assumes
+-- nothing.
 use Prim.Native.Nat.{_-_}
 use native.Mathlib.Omega.{arith}
 use Rattle.grid.specs.Grid.{slots}

@@ -1,4 +1,5 @@
--- `feedings::choosing::choose` meets its contract. The loop keeps what `InDay` says of the slots passed. Assumes nothing.
+-- `feedings::choosing::choose` meets its contract. The loop keeps what `InDay` says of the slots passed. Assumes
+-- nothing.
 use Prim.Native.Nat.{_-_}
 use Rattle.feedings.specs.FeedingLoopLaws.{InDay, in-day-start, in-day-slot, in-day-next, chose}
 use native.Mathlib.Omega.{arith}

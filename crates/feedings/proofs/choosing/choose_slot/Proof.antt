@@ -1,4 +1,5 @@
--- `feedings::choosing::choose_slot` meets its contract. The loop keeps what `InSlot` says of the rations passed. Assumes nothing.
+-- `feedings::choosing::choose_slot` meets its contract. The loop keeps what `InSlot` says of the rations passed.
+-- Assumes nothing.
 use Prim.Native.Nat.{_-_}
 use native.Mathlib.Omega.{arith}
 use Rattle.feedings.specs.FeedingLoopLaws.{InSlot, in-slot-start, in-slot-feed, in-slot-next, chose-slot}

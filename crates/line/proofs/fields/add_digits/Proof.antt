@@ -1,4 +1,5 @@
--- `line::fields::add_digits` meets its contract. The digits that are left go on from the value so far, which has room for them. Assumes nothing.
+-- `line::fields::add_digits` meets its contract. The digits that are left go on from the value so far, which has room
+-- for them. Assumes nothing.
 use mathlib.Core.Path.{_≡_, refl, sym, _∙_}
 use Prim.Native.Nat.{_+_, _*_, _^_, _≤_, _-_}
 use lib.ListN.{length, getD}

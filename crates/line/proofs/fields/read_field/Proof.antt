@@ -1,4 +1,5 @@
--- `line::fields::read_field` meets its contract: blanks are passed, and the first other byte says what the field is. Assumes nothing.
+-- `line::fields::read_field` meets its contract: blanks are passed, and the first other byte says what the field is.
+-- Assumes nothing.
 use Rattle.line.specs.FieldSteps.{field-blank, field-zero, field-leading-zero, field-below, field-above, field-can-add, field-digits}
 use borrow.Author.Needs.{needs}
 use Rattle.line.proofs.fields.read_field.Statement.{statement}

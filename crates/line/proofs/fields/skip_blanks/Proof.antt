@@ -1,4 +1,5 @@
--- `line::fields::skip_blanks` meets its contract. What is passed is blank, so that reading from the place reached gives what reading from the start gives. Assumes nothing.
+-- `line::fields::skip_blanks` meets its contract. What is passed is blank, so that reading from the place reached gives
+-- what reading from the start gives. Assumes nothing.
 use mathlib.Core.Path.{_≡_, refl, _∙_}
 use Prim.Native.Nat.{_≤_, _-_}
 use lib.ListN.{length}

@@ -1,4 +1,5 @@
--- `plan_lines::feed_lines::add_parts` meets its contract. The parts, with the bits that are left, are those asked for. Assumes nothing.
+-- `plan_lines::feed_lines::add_parts` meets its contract. The parts, with the bits that are left, are those asked for.
+-- Assumes nothing.
 use native.Mathlib.Omega.{arith}
 use Rattle.bits.specs.Lowest.{lowest-less}
 use Rattle.plan_lines.specs.FeedSteps.{AddingParts, parts-begin, parts-few, parts-more, parts-end}

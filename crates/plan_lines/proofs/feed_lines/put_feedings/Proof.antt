@@ -1,4 +1,5 @@
--- `plan_lines::feed_lines::put_feedings` meets its contract. The lines put, with those of the slots that are left, are all. Assumes nothing.
+-- `plan_lines::feed_lines::put_feedings` meets its contract. The lines put, with those of the slots that are left, are
+-- all. Assumes nothing.
 use Prim.Native.Nat.{_-_}
 use native.Mathlib.Omega.{arith}
 use Rattle.plan_lines.specs.FeedSteps.{FeedingsPut, feedings-begin, feedings-can-add, feedings-can-slot, feedings-more, feedings-end}

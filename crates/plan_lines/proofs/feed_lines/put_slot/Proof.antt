@@ -1,4 +1,5 @@
--- `plan_lines::feed_lines::put_slot` meets its contract. The lines put, with those of the bits that are left, are all. Assumes nothing.
+-- `plan_lines::feed_lines::put_slot` meets its contract. The lines put, with those of the bits that are left, are all.
+-- Assumes nothing.
 use native.Mathlib.Omega.{arith}
 use Rattle.bits.specs.Lowest.{lowest-less}
 use Rattle.plan_lines.specs.FeedSteps.{SlotPut, slot-begin, slot-few, feeding-can, slot-more, slot-end}

@@ -1,4 +1,5 @@
--- `plan_lines::stretch_lines::put_blower` meets its contract. The lines put, with those of the stretches that are left, are all. Assumes nothing.
+-- `plan_lines::stretch_lines::put_blower` meets its contract. The lines put, with those of the stretches that are left,
+-- are all. Assumes nothing.
 use Prim.Native.Nat.{_-_}
 use native.Mathlib.Omega.{arith}
 use Rattle.energy.specs.StretchLaws.{found}

@@ -1,4 +1,5 @@
--- `plan_lines::stretch_lines::put_stretches` meets its contract. The lines put, with those of the blowers that are left, are all. Assumes nothing.
+-- `plan_lines::stretch_lines::put_stretches` meets its contract. The lines put, with those of the blowers that are
+-- left, are all. Assumes nothing.
 use Prim.Native.Nat.{_-_}
 use native.Mathlib.Omega.{arith}
 use Rattle.plan_lines.specs.StretchSteps.{StretchesPut, stretches-begin, stretches-can, stretches-more, stretches-end}

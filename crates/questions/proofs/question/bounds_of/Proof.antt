@@ -1,4 +1,5 @@
--- `questions::question::bounds_of` meets its contract: the sheet is refused, a list is refused, a low is above its high, or the answer is that of the search. Assumes nothing.
+-- `questions::question::bounds_of` meets its contract: the sheet is refused, a list is refused, a low is above its
+-- high, or the answer is that of the search. Assumes nothing.
 use mathlib.Core.Path.{refl, sym, _∙_}
 use borrow.Author.Tests.{not-true, not-false}
 use Rattle.placing.specs.RationLaws.{rations-longest}

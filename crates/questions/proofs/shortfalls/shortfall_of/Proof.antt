@@ -1,4 +1,5 @@
--- `questions::shortfalls::shortfall_of` meets its contract: the sheet is refused, the marks are refused, or the answer is the difference. Assumes nothing.
+-- `questions::shortfalls::shortfall_of` meets its contract: the sheet is refused, the marks are refused, or the answer
+-- is the difference. Assumes nothing.
 use mathlib.Core.Path.{sym, ap, _∙_}
 use Prim.Native.Nat.{_*_}
 use lib.IntN.{subℕ}

@@ -1,5 +1,5 @@
--- `records::plans::kiwimound_plan_rations` meets its contract: a walk of its MIR, by hand, since the borrow checker covers no slice of structs. The records are read, and
--- `planning::plan_of` is called on the reading. Assumes nothing.
+-- `records::plans::kiwimound_plan_rations` meets its contract: a walk of its MIR, by hand, since the borrow checker
+-- covers no slice of structs. The records are read, and `planning::plan_of` is called on the reading. Assumes nothing.
 use mathlib.Core.Path.{_≡_, refl}
 use mathlib.Core.List.{List, [], _∷_}
 use Prim.Native.Nat.{ℕ, _<_, _^_}

@@ -1,5 +1,6 @@
--- `records::question::kiwimound_bounds_rations` meets its contract: a walk of its MIR, by hand, since the borrow checker covers no slice of structs. The records are read, and
--- `questions::bounds_of` is called on the reading. Assumes nothing.
+-- `records::question::kiwimound_bounds_rations` meets its contract: a walk of its MIR, by hand, since the borrow
+-- checker covers no slice of structs. The records are read, and `questions::bounds_of` is called on the reading.
+-- Assumes nothing.
 use mathlib.Core.Path.{refl}
 use mathlib.Core.List.{List, [], _∷_}
 use Prim.Native.Nat.{ℕ, _<_, _^_}

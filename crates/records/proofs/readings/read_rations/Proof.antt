@@ -1,5 +1,5 @@
--- `records::readings::read_rations` meets its contract: a walk of its MIR, by hand, since the borrow checker covers no slice of structs. The records are flattened, and
--- `read_flat` is called on the numbers. Assumes nothing.
+-- `records::readings::read_rations` meets its contract: a walk of its MIR, by hand, since the borrow checker covers no
+-- slice of structs. The records are flattened, and `read_flat` is called on the numbers. Assumes nothing.
 use mathlib.Core.Path.{_≡_, refl, _∙_}
 use mathlib.Core.List.{List, [], _∷_}
 use Prim.Native.Nat.{ℕ, _<_, _^_}

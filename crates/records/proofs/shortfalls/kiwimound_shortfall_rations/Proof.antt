@@ -1,5 +1,6 @@
--- `records::shortfalls::kiwimound_shortfall_rations` meets its contract: a walk of its MIR, by hand, since the borrow checker covers no slice of structs. The records are read, and
--- `questions::shortfall_of` is called on the reading. Assumes nothing.
+-- `records::shortfalls::kiwimound_shortfall_rations` meets its contract: a walk of its MIR, by hand, since the borrow
+-- checker covers no slice of structs. The records are read, and `questions::shortfall_of` is called on the reading.
+-- Assumes nothing.
 use mathlib.Core.Path.{refl}
 use mathlib.Core.List.{List, [], _∷_}
 use Prim.Native.Nat.{ℕ, _<_, _^_}
