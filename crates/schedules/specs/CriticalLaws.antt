@@ -1,5 +1,5 @@
--- The minimal critical set is of greatest shortfall, every set of greatest shortfall contains it, and it is empty exactly where no set has
--- a greater shortfall than the empty one. Assumes nothing.
+-- The minimal critical set is of greatest shortfall, every set of greatest shortfall contains it, and it is empty
+-- exactly where no set has a greater shortfall than the empty one. Assumes nothing.
 use mathlib.Core.Path.{_≡_, refl, sym, _∙_, ap}
 use mathlib.Core.Logic.{_↔_}
 use mathlib.Core.Bool.{Bool, true, false, false≢true}
@@ -13,81 +13,62 @@ use lib.Signed.{_≤ℤ_}
 use Rattle.common.specs.Lists.{count}
 use Rattle.common.specs.Tests.{bool-ext}
 use Rattle.theory.specs.SumsOver as S
-use Rattle.theory.specs.SumsOver.{on-cong, on-none, on-zero}
+use Rattle.theory.specs.SumsOver.{sumOn, on-cong, on-none, on-zero}
 use Rattle.theory.specs.Placing as F
 use Rattle.theory.specs.Volumes.{forced-cong, forced-none-of-fits}
-use Rattle.theory.specs.Critical as C
-use Rattle.theory.specs.Critical.{Critical, greatest-meet, critical-unique}
-use Rattle.schedules.specs.Slots.{Slots, has, sumOver, meet}
+use Rattle.theory.specs.Critical.{GreatestDeficiency, Critical, greatest-meet}
+use Rattle.schedules.specs.Slots.{Slots, has, sumOver}
 use Rattle.schedules.specs.Schedules.{Demand, Windows, windowOf, volumeOf, feasible}
 use Rattle.schedules.specs.Shortfall.{forced, capacity, shortfall, possible, excess, NoObstacle, criticalSet}
-use Rattle.schedules.specs.Tabulate.{tab, length-tab, getD-tab, tab-unique, count-size}
+use Rattle.schedules.specs.Tabulate.{tab, count-size}
 use Rattle.schedules.specs.Differences.{sub-le, sub-le-zero}
-use Rattle.schedules.specs.AsFunctions.{free, bound, forced-as, sumOver-as, forced-tab, sumOver-tab}
+use Rattle.schedules.specs.AsFunctions.{free, bound, forced-as, sumOver-as}
 use Rattle.schedules.specs.FeasibleLaws.{sound-feasible, no-obstacle-sound}
-use Rattle.schedules.specs.GreatestLaws.{Greatest, length-meet, has-meet, length-inEveryGreatest, inEveryGreatest-in, inEveryGreatest-greatest}
+use Rattle.schedules.specs.GreatestLaws.{Greatest}
+use Rattle.schedules.specs.LeastSetLaws.{AsFunction, length-least, least-greatest, least-within, value-le-least, value-within, least-as}
 
 module _ {slots : ℕ} {ds : List Demand} (w : Windows slots ds) (high : List ℕ) (h : length high ≡ slots) where
-  abbrev Top : Slots → Type 0
-  Top = Greatest slots (forced ds) (capacity high)
-
-  abbrev TopF : (ℕ → Bool) → Type 0
-  TopF = C.Greatest (length ds) slots (free ds) (volumeOf ds) (bound high)
-
-  -- Greatest, of lists and of functions ---------------------------------------
-
-  top-function : (q : Slots) → length q ≡ slots → Top q → TopF (has q)
-  top-function q e g Q =
-      omega (
-        arith,
-        g (tab slots Q) (length-tab slots Q),
-        forced-as w q e,
-        sumOver-as high q h e,
-        forced-tab w Q,
-        sumOver-tab high h Q,
-      )
-
-  function-top : (q : Slots) → length q ≡ slots → TopF (has q) → Top q
-  function-top q e g r k = omega (arith, g (has r), forced-as w q e, sumOver-as high q h e, forced-as w r k, sumOver-as high r h k)
-
-  top-cong : {A B : ℕ → Bool} → ((t : ℕ) → t < slots → A t ≡ B t) → TopF A → TopF B
-  top-cong {A} {B} k g Q =
-      omega (arith, g Q, forced-cong (length ds) slots (free ds) (volumeOf ds) k, on-cong {x = bound high} {y = bound high} k (λ t l. refl))
-
-  top-meet : (a b : Slots) → length a ≡ slots → length b ≡ slots → Top a → Top b → Top (meet a b)
-  top-meet a b p q x y =
-      function-top (meet a b) (length-meet a b p q)
-      (top-cong (λ t l. sym (has-meet a b p q t l))
-      (greatest-meet (length ds) slots (free ds) (volumeOf ds) (bound high) (has a) (has b) (top-function a p x) (top-function b q y)))
-
   -- The minimal critical set --------------------------------------------------
+
+  volumes : AsFunction slots (forced ds) (F.forced (length ds) slots (free ds) (volumeOf ds))
+  volumes = record { is = λ q e. forced-as w q e; cong = λ A B k. forced-cong (length ds) slots (free ds) (volumeOf ds) {A = A} {B = B} k }
+
+  highs : AsFunction slots (capacity high) (λ Q. sumOn slots Q (bound high))
+  highs = record { is = λ q e. sumOver-as high q h e; cong = λ A B k. on-cong {A = A} {B = B} {x = bound high} {y = bound high} k (λ t l. refl) }
+
+  meets : (A B : ℕ → Bool) → GreatestDeficiency (length ds) slots (free ds) (volumeOf ds) (bound high) A
+      → GreatestDeficiency (length ds) slots (free ds) (volumeOf ds) (bound high) B
+      → GreatestDeficiency (length ds) slots (free ds) (volumeOf ds) (bound high) (S.meet A B)
+  meets = greatest-meet (length ds) slots (free ds) (volumeOf ds) (bound high)
 
   pub length-criticalSet : length (criticalSet slots ds high) ≡ slots
   unfolding criticalSet shortfall
-  length-criticalSet = length-inEveryGreatest slots (forced ds) (capacity high)
+  length-criticalSet = length-least volumes highs meets
 
-  critical-top : Top (criticalSet slots ds high)
+  pub critical-top : Greatest slots (forced ds) (capacity high) (criticalSet slots ds high)
   unfolding criticalSet shortfall
-  critical-top = inEveryGreatest-greatest slots (forced ds) (capacity high) top-meet
+  critical-top = least-greatest volumes highs meets
 
-  critical-in-top : (q : Slots) → length q ≡ slots → Top q → (t : ℕ) → has (criticalSet slots ds high) t ≡ true → has q t ≡ true
+  critical-in-top : (q : Slots) → length q ≡ slots → Greatest slots (forced ds) (capacity high) q
+      → (t : ℕ) → has (criticalSet slots ds high) t ≡ true → has q t ≡ true
   unfolding criticalSet shortfall
-  critical-in-top = inEveryGreatest-in slots (forced ds) (capacity high)
+  critical-in-top = least-within volumes highs meets
 
   -- (c) no set has a greater shortfall
   pub shortfall-le-critical : (q : Slots) → length q ≡ slots → shortfall ds high q ≤ℤ shortfall ds high (criticalSet slots ds high)
-  unfolding shortfall
-  shortfall-le-critical q e =
-      sub-le (forced ds q) (capacity high q) (forced ds (criticalSet slots ds high)) (capacity high (criticalSet slots ds high)) .1
-      (critical-top q e)
+  unfolding criticalSet shortfall
+  shortfall-le-critical = value-le-least volumes highs meets
 
   -- and one that has as much contains it
   pub critical-within : (q : Slots) → length q ≡ slots → shortfall ds high (criticalSet slots ds high) ≤ℤ shortfall ds high q
       → (t : ℕ) → has (criticalSet slots ds high) t ≡ true → has q t ≡ true
-  unfolding shortfall
-  critical-within q e k =
-      let C : Slots = criticalSet slots ds high in
-      critical-in-top q e (λ r l. omega (arith, critical-top r l, sub-le (forced ds C) (capacity high C) (forced ds q) (capacity high q) .0 k))
+  unfolding criticalSet shortfall
+  critical-within = value-within volumes highs meets
+
+  -- there is one minimal critical set only
+  pub critical-as : {R : ℕ → Bool} → Critical (length ds) slots (free ds) (volumeOf ds) (bound high) R → criticalSet slots ds high ≡ tab slots R
+  unfolding criticalSet shortfall
+  critical-as c = least-as volumes highs meets (c .least-set)
 
   -- The empty set -------------------------------------------------------------
 
@@ -107,7 +88,7 @@ module _ {slots : ℕ} {ds : List Demand} (w : Windows slots ds) (high : List �
       empty : ((q : Slots) → length q ≡ slots → shortfall ds high q ≤ℤ shortfall ds high none) → criticalSet slots ds high ≡ none
       empty g = ext-getD false (criticalSet slots ds high) none (length-criticalSet ∙ sym (length-replicate slots false)) at
         where
-          top : Top none
+          top : Greatest slots (forced ds) (capacity high) none
           top q l = sub-le (forced ds q) (capacity high q) (forced ds none) (capacity high none) .0 (g q l)
 
           at : (t : ℕ) → t < length (criticalSet slots ds high) → has (criticalSet slots ds high) t ≡ has none t
@@ -150,19 +131,3 @@ module _ {slots : ℕ} {ds : List Demand} (w : Windows slots ds) (high : List �
       let s = no-obstacle-sound w (length-replicate slots 0) h (critical-no-obstacle k) in
       false≢true (sym e ∙ sound-feasible w (length-replicate slots 0) h (s .1))) in
       omega arith
-
-  -- As functions --------------------------------------------------------------
-
-  critical-function : Critical (length ds) slots (free ds) (volumeOf ds) (bound high) (has (criticalSet slots ds high))
-  critical-function = record {
-    greatest = top-function (criticalSet slots ds high) length-criticalSet critical-top;
-    least = λ Q e t l c.
-        let top : TopF Q = λ R. omega (arith, top-function (criticalSet slots ds high) length-criticalSet critical-top R) in
-        sym (getD-tab slots Q false t l)
-        ∙ critical-in-top (tab slots Q) (length-tab slots Q)
-        (function-top (tab slots Q) (length-tab slots Q) (top-cong (λ t l. sym (getD-tab slots Q false t l)) top)) t c;
-  }
-
-  -- there is one minimal critical set only
-  pub critical-as : {R : ℕ → Bool} → Critical (length ds) slots (free ds) (volumeOf ds) (bound high) R → criticalSet slots ds high ≡ tab slots R
-  critical-as {R} c = tab-unique false (criticalSet slots ds high) slots R length-criticalSet (critical-unique critical-function c)

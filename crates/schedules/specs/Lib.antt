@@ -3,6 +3,7 @@
 pub mod Slots
 pub mod Schedules
 pub mod Shortfall
+pub mod Causes
 pub mod Demands
 pub mod Rest
 -- The theorems a reader looks for
@@ -14,8 +15,10 @@ pub mod OneSlot
 pub mod AsFunctions
 -- Laws of the definitions
 pub mod FeasibleLaws
-pub mod CriticalLaws
 pub mod GreatestLaws
+pub mod LeastSetLaws
+pub mod CriticalLaws
+pub mod CauseLaws
 pub mod EnumerationLaws
 pub mod WindowLaws
 pub mod Differences

@@ -1,5 +1,6 @@
--- The main facts of this layer, (a) to (d), for every day: its windows and both its bounds have an entry for each slot. Nothing is assumed
--- of volumes, which may be 0 or too large for their windows. Here are the statements; the law files have the proofs. Assumes nothing.
+-- The main facts of this layer, (a) to (e), for every day: its windows and both its bounds have an entry for each slot.
+-- Nothing is assumed of volumes, which may be 0 or too large for their windows. Here are the statements; the law files
+-- have the proofs. Assumes nothing.
 use mathlib.Core.Path.{_≡_, refl, sym, _∙_}
 use mathlib.Core.Logic.{_↔_}
 use mathlib.Core.Bool.{Bool, true, false, _&&_, false≢true}
@@ -17,6 +18,7 @@ use Rattle.theory.specs.Volumes.{forced-le-mul}
 use Rattle.schedules.specs.Slots.{Slots, has, window}
 use Rattle.schedules.specs.Schedules.{Demand, Schedule, Sound, Windows, AtMost, windowOf, volumeOf, feasible}
 use Rattle.schedules.specs.Shortfall.{forced, capacity, shortfall, excess, NoObstacle, criticalSet}
+use Rattle.schedules.specs.Causes.{IsCause, obstacle}
 use Rattle.schedules.specs.Meanings.{meanings}
 use Rattle.schedules.specs.ListLaws.{in-every}
 use Rattle.schedules.specs.Differences.{le-of-leZ, sub-range}
@@ -24,6 +26,7 @@ use Rattle.schedules.specs.EnumerationLaws.{subsets-mem}
 use Rattle.schedules.specs.AsFunctions.{free, bound, forced-as, sumOver-as}
 use Rattle.schedules.specs.FeasibleLaws.{feasible-sound, sound-feasible, sound-no-obstacle, no-obstacle-sound, sound-looser}
 use Rattle.schedules.specs.CriticalLaws as Laws
+use Rattle.schedules.specs.CauseLaws.{is-cause, no-cause}
 
 module _ {slots : ℕ} {ds : List Demand} (w : Windows slots ds) where
   module _ (low high : List ℕ) (l : length low ≡ slots) (h : length high ≡ slots) where
@@ -31,10 +34,18 @@ module _ {slots : ℕ} {ds : List Demand} (w : Windows slots ds) where
     pub feasible-iff-sound : (feasible slots ds low high ≡ true) ↔ ((p : Schedule) × Sound slots ds low high p)
     feasible-iff-sound = (feasible-sound w l h, λ s. sound-feasible w l h (s .1))
 
-    -- (b) a sound placing exists exactly when low ≤ high in every slot and no set of slots has shortfall or excess above zero
-    -- (document 000, lemma 12, leaves the first condition unsaid: `order-is-needed` below)
+    -- (b) a sound placing exists exactly when low ≤ high in every slot and no set of slots has shortfall or excess
+    -- above zero (document 000, lemma 12, leaves the first condition unsaid: `order-is-needed` below)
     pub sound-iff-no-obstacle : ((p : Schedule) × Sound slots ds low high p) ↔ NoObstacle slots ds low high
     sound-iff-no-obstacle = (λ s. sound-no-obstacle w l h (s .1), no-obstacle-sound w l h)
+
+    -- (e) where there is none, one of the three causes applies, and `obstacle` is the first that does, with its slots
+    pub cause-applies : feasible slots ds low high ≡ false → IsCause slots ds low high (obstacle slots ds low high)
+    cause-applies = is-cause w low high l h
+
+    -- where there is one, none applies
+    pub no-cause-applies : feasible slots ds low high ≡ true → obstacle slots ds low high .number ≡ 0
+    no-cause-applies = no-cause w low high l h
 
   module _ (high : List ℕ) (h : length high ≡ slots) where
     -- (c) the set contained in every set of greatest shortfall is itself of greatest shortfall
@@ -74,8 +85,8 @@ module _ {slots : ℕ} {ds : List Demand} (w : Windows slots ds) where
 
 -- The day of (b) --------------------------------------------------------------
 
--- One ration with the window 1 to 3 and volume 1, lows 0, 1, 0 and highs 0, 0, 1: no set has shortfall or excess above zero, and yet there
--- is no sound placing, since slot 2 has a low above its high.
+-- One ration with the window 1 to 3 and volume 1, lows 0, 1, 0 and highs 0, 0, 1: no set has shortfall or excess above
+-- zero, and yet there is no sound placing, since slot 2 has a low above its high.
 abbrev pub oneRation : List Demand
 oneRation = record { window = window 3 1 3; volume = 1 } ∷ []
 

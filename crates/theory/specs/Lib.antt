@@ -1,6 +1,7 @@
--- Placing jobs in time slots, as combinatorics of functions. Each file's head says in a sentence what it shows. In reading order: tests and
--- sums; what a placing is; what a set of slots must and can take; closed sets and the exchange; moves, layers and augmenting; the optimum;
--- both bounds; the least set of greatest deficiency.
+-- Placing jobs in time slots, as combinatorics of functions. Each file's head says in a sentence what it shows. In
+-- reading order: tests and sums; what a placing is; what a set of slots must and can take; closed sets and the
+-- exchange; moves, layers and augmenting; the optimum; both bounds; the least set of greatest deficiency, and of
+-- greatest excess.
 pub mod Sums
 pub mod SumsOver
 pub mod Placing
@@ -14,4 +15,6 @@ pub mod Layers
 pub mod Augment
 pub mod Optimum
 pub mod Bounds
+pub mod LeastSet
 pub mod Critical
+pub mod Excess
