@@ -1,5 +1,5 @@
--- Placings in words, with loads within bounds. Definitions first: what the first placing and the relief of slots require and ensure, and what a
--- grid means. `Theorems` names the main laws. Then the laws, a file for each step.
+-- Placings in words, with loads within bounds. Definitions first: what the first placing and the relief of slots
+-- require and ensure, and what a grid means. `Theorems` names the main laws. Then the laws, a file for each step.
 pub mod Theory
 pub mod First
 pub mod Relief
@@ -14,3 +14,4 @@ pub mod HeldLaws
 pub mod StateLaws
 pub mod RaiseLaws
 pub mod StartLaws
+pub mod MarkLaws

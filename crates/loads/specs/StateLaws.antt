@@ -1,5 +1,5 @@
--- A placing within lows and highs, and what `lower` makes of it: another one with slot t's high at h, or the proof that there is none.
--- Assumes nothing.
+-- A placing within lows and highs, and what `lower` makes of it: another one with slot t's high at h, or the proof that
+-- there is none. Assumes nothing.
 use mathlib.Core.Path.{_≡_, refl, sym, ap, _∙_, subst}
 use mathlib.Core.Logic.{_≢_}
 use mathlib.Core.Bool.{Bool, true, false}
@@ -12,7 +12,7 @@ use lib.ListN.{length, set, length-set}
 use lib.Seq.{getD-set-same, getD-set-other}
 use Rattle.loads.specs.Theory.{count, Placing}
 use Rattle.grid.specs.Grid.{at, load, Rearranged}
-use Rattle.loads.specs.Relief.{Within, CanLower, Lowered}
+use Rattle.loads.specs.Relief.{Within, Towards, CanLower, Lowered}
 use Rattle.loads.specs.Meaning.{bitAt, Day, Places, State, put}
 use Rattle.loads.specs.MeaningLaws.{count-load, count-width, loaded-slot, places-placing, places-moved, day-exchange}
 use Rattle.loads.specs.HeldLaws.{held-none}
@@ -85,67 +85,76 @@ module _ {n d : ℕ} {free : ℕ → ℕ → Bool} {v low high : ℕ → ℕ} {F
   pub widths-kept : {F′ R′ : List ℕ} → Rearranged F R F′ R′ → (t : ℕ) → t < d → load F′ t + load R′ t ≡ count n free t
   widths-kept m t l = sym (count-width (places-moved (s .places) m .day) t l)
 
+  -- ---- words whose loads went towards the highs with h in slot t
+
+  pub new-high : (t h : ℕ) → t < d → (u : ℕ) → u < d → at (set H t h) u ≡ put high t h u
+  new-high t h l =
+      at-or-other (λ (u : ℕ). u < d → at (set H t h) u ≡ put high t h u) t
+      (λ k. getD-set-same H t h 0 (omega (arith, s .highs, s .places .day .short)) ∙ sym (put-same high t h))
+      (λ u m k. getD-set-other H t u h 0 m ∙ s .high-at u k ∙ sym (put-other high t h u m))
+
+  module _ (t h : ℕ) (l : t < d) {F′ R′ : List ℕ} (m : Rearranged F R F′ R′) (towards : Towards F (set H t h) F′) where
+    places : Places n d free v F′ R′
+    places = places-moved (s .places) m
+
+    module _ (lo : low t ≤ h) where
+      -- no load goes below its low
+      towards-rest : Within R′ C
+      towards-rest =
+          within-day (day-exchange (places .day)) C
+          (λ u k. omega (arith, low-kept u k, widths-kept m u k, s .spare-at u k))
+        where
+          low-kept : (u : ℕ) → u < d → low u ≤ load F′ u
+          low-kept u k = omega (arith, towards u, low-load u k, new-high t h l u k, low-new u k)
+            where
+              low-new : (u : ℕ) → u < d → low u ≤ put high t h u
+              low-new =
+                  at-or-other (λ (u : ℕ). u < d → low u ≤ put high t h u) t (λ k. omega (arith, put-same high t h))
+                  (λ u m k. omega (arith, put-other high t h u m, low-load u k, load-high u k))
+
+      -- with the highs as they were the words hold a placing within the same bounds
+      pub towards-kept : h ≤ high t → {H′ : List ℕ} → H′ ≡ H → State n d free v low high F′ R′ H′ C
+      towards-kept hi {H′} q =
+          record {
+            places = places;
+            highs = ap length q ∙ s .highs;
+            high-at = λ u k. ap (λ (l : List ℕ). at l u) q ∙ s .high-at u k;
+            fed-within =
+                within-day (places .day) H′
+                (λ u k. omega (arith, towards u, new-high t h l u k, new-le u k, load-high u k, ap (λ (l : List ℕ). at l u) q, s .high-at u k));
+            spares = s .spares;
+            spare-at = s .spare-at;
+            rest-within = towards-rest;
+          }
+        where
+          new-le : (u : ℕ) → u < d → put high t h u ≤ high u
+          new-le =
+              at-or-other (λ (u : ℕ). u < d → put high t h u ≤ high u) t (λ k. omega (arith, put-same high t h))
+              (λ u m k. omega (arith, put-other high t h u m))
+
   -- ---- `lower`
 
   module _ {t h : ℕ} (l : t < d) (lo : low t ≤ h) {r : Bool} {F′ R′ H′ S′ : List ℕ} (w : Lowered r F R H F′ R′ H′ S′ t h) where
-    new-high : (u : ℕ) → u < d → at (set H t h) u ≡ put high t h u
-    new-high =
-        at-or-other (λ (u : ℕ). u < d → at (set H t h) u ≡ put high t h u) t
-        (λ k. getD-set-same H t h 0 (omega (arith, s .highs, s .places .day .short)) ∙ sym (put-same high t h))
-        (λ u m k. getD-set-other H t u h 0 m ∙ s .high-at u k ∙ sym (put-other high t h u m))
-
-    lowered-places : Places n d free v F′ R′
-    lowered-places = places-moved (s .places) (w .moved)
-
-    -- no load goes below its low
-    lowered-rest : Within R′ C
-    lowered-rest =
-        within-day (day-exchange (lowered-places .day)) C
-        (λ u k. omega (arith, low-kept u k, widths-kept (w .moved) u k, s .spare-at u k))
-      where
-        low-kept : (u : ℕ) → u < d → low u ≤ load F′ u
-        low-kept u k = omega (arith, w .towards u, low-load u k, new-high u k, low-new u k)
-          where
-            low-new : (u : ℕ) → u < d → low u ≤ put high t h u
-            low-new =
-                at-or-other (λ (u : ℕ). u < d → low u ≤ put high t h u) t (λ k. omega (arith, put-same high t h))
-                (λ u m k. omega (arith, put-other high t h u m, low-load u k, load-high u k))
-
     -- slot t's high is h now
     pub lowered-state : r ≡ true → State n d free v low (put high t h) F′ R′ H′ C
     lowered-state e =
         let q = w .done e in
         record {
-          places = lowered-places;
+          places = places-moved (s .places) (w .moved);
           highs = ap length (q .0) ∙ length-set H t h ∙ s .highs;
-          high-at = λ u k. ap (λ (l : List ℕ). at l u) (q .0) ∙ new-high u k;
+          high-at = λ u k. ap (λ (l : List ℕ). at l u) (q .0) ∙ new-high t h l u k;
           fed-within = q .1;
           spares = s .spares;
           spare-at = s .spare-at;
-          rest-within = lowered-rest;
+          rest-within = towards-rest t h l (w .moved) (w .towards) lo;
         }
 
     -- or the bounds are as before
     pub lowered-kept : h ≤ high t → r ≡ false → State n d free v low high F′ R′ H′ C
-    lowered-kept hi e =
-        let q = w .held e .0 in
-        record {
-          places = lowered-places;
-          highs = ap length q ∙ s .highs;
-          high-at = λ u k. ap (λ (l : List ℕ). at l u) q ∙ s .high-at u k;
-          fed-within =
-              within-day (lowered-places .day) H′
-              (λ u k. omega (arith, w .towards u, new-high u k, new-le u k, load-high u k, ap (λ (l : List ℕ). at l u) q, s .high-at u k));
-          spares = s .spares;
-          spare-at = s .spare-at;
-          rest-within = lowered-rest;
-        }
-      where
-        new-le : (u : ℕ) → u < d → put high t h u ≤ high u
-        new-le =
-            at-or-other (λ (u : ℕ). u < d → put high t h u ≤ high u) t (λ k. omega (arith, put-same high t h))
-            (λ u m k. omega (arith, put-other high t h u m))
+    lowered-kept hi e = towards-kept t h l (w .moved) (w .towards) lo hi (w .held e .0)
 
     -- and no placing of these rations has slot t within h and every other slot within its high
     pub lowered-none : r ≡ false → {P : ℕ → ℕ → Bool} → Placing n d free v P → ((u : ℕ) → u < d → count n P u ≤ put high t h u) → ⊥
-    lowered-none e q b = held-none lowered-places (w .held e .1) q (λ u k. omega (arith, b u k, new-high u k))
+    lowered-none e q b =
+        held-none (places-moved (s .places) (w .moved)) (w .held e .1) q
+        (λ u k. omega (arith, b u k, new-high t h l u k))

@@ -1,5 +1,5 @@
--- What a caller of this crate knows: how its contracts, in words, become statements about placings. `State` (Meaning) is what the calls keep.
--- Assumes nothing.
+-- What a caller of this crate knows: how its contracts, in words, become statements about placings. `State` (Meaning)
+-- is what the calls keep. Assumes nothing.
 
 -- windows and volumes: what `place_first` requires, and that it makes a placing
 pub use Rattle.loads.specs.StartLaws.{given-start, started-places}
@@ -14,3 +14,6 @@ pub use Rattle.loads.specs.StateLaws.{state-raise}
 pub use Rattle.loads.specs.RaiseLaws.{raised-state, raised-kept, raised-none}
 -- what the marks show, of any grid that is held
 pub use Rattle.loads.specs.HeldLaws.{held-critical, held-none}
+-- `mark_over`, `mark_excess`: the state as it was, and the marks are the least set of greatest shortfall, or of
+-- greatest excess
+pub use Rattle.loads.specs.MarkLaws.{over-kept, over-critical, marked-kept, marked-excess}

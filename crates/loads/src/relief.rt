@@ -1,10 +1,10 @@
-// Bringing loads down to the highs, by searches. A search that fails leaves the slots it reached marked: no later search looks at them again,
-// and at the end they show why no placing of these rations keeps within the highs.
+// Bringing loads down to the highs, by searches. A search that fails leaves the slots it reached marked: no later
+// search looks at them again, and at the end they show why no placing of these rations keeps within the highs.
 ghost use mathlib.Core.Path.{_≡_};
-ghost use Prim.Native.Nat.{_+_, _≤_, _<_};
+ghost use Prim.Native.Nat.{_+_, _-_, _≤_, _<_};
 ghost use lib.Count.{ones};
 ghost use lib.Dec.{ltb};
-ghost use Rattle.loads.specs.Relief.{CanUnload, Unloaded, CanRelieve, Relieved, CanLower, Lowered, Raised, Widths};
+ghost use Rattle.loads.specs.Relief.{CanUnload, Unloaded, CanRelieve, Relieved, CanLower, Lowered, Raised, OverMarked, ExcessMarked, Widths};
 use grid::SLOTS;
 use grid::search;
 
@@ -40,8 +40,8 @@ fn unload(
     true
 }
 
-// Brings every load down to its high. Where that can't be done, the marks are left on the slots reached from those that hold too much: the set
-// of slots contained in every set of greatest shortfall.
+// Brings every load down to its high. Where that can't be done, the marks are left on the slots reached from those that
+// hold too much: the set of slots contained in every set of greatest shortfall.
 pub fn relieve(
     fed: &mut [u64; SLOTS],
     rest: &mut [u64; SLOTS],
@@ -61,8 +61,8 @@ pub fn relieve(
     within
 }
 
-// Lowers the high of slot t to h, where all loads are within the highs. Where that can't be done, the highs stay, and the marks are left on
-// the slots reached from t.
+// Lowers the high of slot t to h, where all loads are within the highs. Where that can't be done, the highs stay, and
+// the marks are left on the slots reached from t.
 pub fn lower(
     fed: &mut [u64; SLOTS],
     rest: &mut [u64; SLOTS],
@@ -92,9 +92,10 @@ pub fn width(fed: u64, rest: u64) -> u32
     u64::count_ones(fed) + u64::count_ones(rest)
 }
 
-// Raises the low of slot t to k, where `spare` has for each slot how many of the rations with the slot in their windows may rest in it: their
-// number less the slot's low. It is `lower` on the exchanged words. Where it can't be done, the spares stay, and the marks are left on the slots
-// reached from t there, unless fewer than k rations have t in their windows.
+// Raises the low of slot t to k, where `spare` has for each slot how many of the rations with the slot in their windows
+// may rest in it: their number less the slot's low. It is `lower` on the exchanged words. Where it can't be done, the
+// spares stay, and the marks are left on the slots reached from t there, unless fewer than k rations have t in their
+// windows.
 pub fn raise(
     fed: &mut [u64; SLOTS],
     rest: &mut [u64; SLOTS],
@@ -113,6 +114,60 @@ pub fn raise(
     }
     let h = (all - k as u32) as u8;
     lower(rest, fed, spare, seen, t, h)
+}
+
+// Marks the slots that show why slot t can't have the high h: those reached from it, as `lower` leaves them. Where it
+// can, slot t alone is marked. The highs stay.
+fn mark_over(
+    fed: &mut [u64; SLOTS],
+    rest: &mut [u64; SLOTS],
+    high: &mut [u8; SLOTS],
+    seen: &mut [u8; SLOTS],
+    t: usize,
+    h: u8,
+)
+    requires { ⌜ CanLower (now fed) (now rest) (now high) t ⌝ }
+    ensures { λ _. ⌜ OverMarked (now (fed .entry)) (now (rest .entry)) (now (high .entry))
+        (now (fed .exit)) (now (rest .exit)) (now (high .exit)) (now (seen .exit)) t h ⌝ }
+{
+    let old = high[t];
+    if lower(fed, rest, high, seen, t, h) {
+        high[t] = old;
+        *seen = [0; SLOTS];
+        seen[t] = 1;
+    }
+}
+
+// What may rest in a slot of so many rations whose low is k; none where it has fewer than k.
+fn spare_for(all: u32, k: u8) -> u8
+    requires { ⌜ all ≤ 128 ⌝ }
+    ensures { λ r. ⌜ r ≡ all - k ⌝ }
+{
+    let low = k as u32;
+    if all <= low {
+        return 0;
+    }
+    (all - low) as u8
+}
+
+// Marks the slots that show why slot t can't have the low k: `mark_over` on the exchanged words. Where fewer than k
+// rations have t in their windows, the search is made with the low at their number: `raise` would make none. If that
+// can't be done either, the slots reached show it for k as well; if it can, slot t alone does. The spares stay.
+pub fn mark_excess(
+    fed: &mut [u64; SLOTS],
+    rest: &mut [u64; SLOTS],
+    spare: &mut [u8; SLOTS],
+    seen: &mut [u8; SLOTS],
+    t: usize,
+    k: u8,
+)
+    requires { ⌜ CanLower (now rest) (now fed) (now spare) t ⌝ }
+    ensures { λ _. ⌜ ExcessMarked (now (fed .entry)) (now (rest .entry)) (now (spare .entry))
+        (now (fed .exit)) (now (rest .exit)) (now (spare .exit)) (now (seen .exit)) t k ⌝ }
+{
+    let all = width(fed[t], rest[t]);
+    let h = spare_for(all, k);
+    mark_over(rest, fed, spare, seen, t, h);
 }
 
 // Writes to `spare` how many rations each slot has: the spares where every low is 0.

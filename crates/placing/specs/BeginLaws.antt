@@ -16,8 +16,8 @@ use Rattle.loads.specs.MeaningLaws.{count-load, places-placing, places-moved}
 use Rattle.loads.specs.HeldLaws.{words-closed}
 use Rattle.loads.specs.StartLaws.{relieved-state, relieved-critical, relieved-none, started-places}
 use Rattle.common.specs.Tests.{false-of-not-true}
-use Rattle.theory.specs.SumsOver.{sumOn, on-cong}
-use Rattle.theory.specs.Critical.{Critical}
+use Rattle.theory.specs.SumsOver.{on-cong}
+use Rattle.theory.specs.Critical.{critical-highs}
 use Rattle.schedules.specs.Schedules.{Demand, volumeOf, feasible}
 use Rattle.schedules.specs.Shortfall.{forced, criticalSet}
 use Rattle.schedules.specs.FeasibleLaws.{feasible-sound}
@@ -27,17 +27,6 @@ use Rattle.schedules.specs.AsFunctions.{free, sound-bounded}
 use Rattle.schedules.specs.Certificates.{closed-forced}
 use Rattle.placing.specs.Represents.{Represents, DemandWords, HighWords, Begun, marksOf, markedLoads}
 use Rattle.placing.specs.StepLaws.{state-bounds, represents-feasible}
-
--- a set is critical for highs that agree within the day
-critical-highs : {n d : ℕ} {f : ℕ → ℕ → Bool} {v x y : ℕ → ℕ} {R : ℕ → Bool} → ((t : ℕ) → t < d → x t ≡ y t) → Critical n d f v x R → Critical n d f v y R
-critical-highs {n} {d} {f} {v} {x} {y} {R} e c =
-    record {
-      greatest = λ Q. omega (arith, c .greatest Q, same R, same Q);
-      least = λ Q q. c .least Q (omega (arith, same R, same Q));
-    }
-  where
-    same : (Q : ℕ → Bool) → sumOn d Q x ≡ sumOn d Q y
-    same Q = on-cong (λ t l. refl) e
 
 -- only from itself does one come to a slot in which nothing rests
 reach-rest : {F R : List ℕ} {s t : ℕ} → Reach F R s t → at R t ≡ 0 → s ≡ t

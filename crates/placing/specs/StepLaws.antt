@@ -17,7 +17,7 @@ use Rattle.loads.specs.MeaningLaws.{count-width}
 use Rattle.loads.specs.StateLaws.{state-placing, state-within, state-lower, state-raise, lowered-state, lowered-kept, lowered-none}
 use Rattle.loads.specs.RaiseLaws.{raised-state, raised-kept, raised-none}
 use Rattle.common.specs.Tests.{false-of-not-true}
-use Rattle.schedules.specs.Schedules.{Demand, Windows, Sound, load as loadOf, feasible}
+use Rattle.schedules.specs.Schedules.{Demand, Windows, feasible}
 use Rattle.schedules.specs.FeasibleLaws.{feasible-sound}
 use Rattle.schedules.specs.AsFunctions.{bound, sound-bounded}
 use Rattle.schedules.specs.Certificates.{places-feasible}
@@ -57,7 +57,7 @@ module _ {slots : ℕ} {ds : List Demand} {low high F R H C : List ℕ} (s : Rep
   represents-ready t l = record { fed = state-lower (s .state) t l; rest = state-raise (s .state) t l }
 
   -- the low of a slot, by the words
-  low-width : (t : ℕ) → t < slots → at C t + bound low t ≡ width F R t
+  pub low-width : (t : ℕ) → t < slots → at C t + bound low t ≡ width F R t
   low-width t l = s .state .spare-at t l ∙ count-width (s .state .places .day) t l
 
 -- a low above a high: no

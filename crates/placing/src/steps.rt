@@ -1,5 +1,5 @@
-// Questions about one slot: may a blower stay idle in it, may it be busy in it. Each starts from words that hold a sound placing under the bounds kept so
-// far, and leaves such words.
+// Questions about one slot: may a blower stay idle in it, may it be busy in it. Each starts from words that hold a
+// sound placing under the bounds kept so far, and leaves such words.
 ghost use mathlib.Core.Path.{_≡_};
 ghost use Prim.Native.Nat.{_≤_, _+_};
 ghost use lib.Count.{ones};
@@ -8,13 +8,14 @@ ghost use Rattle.placing.specs.Represents.{Ready, Idled, Busied};
 use loads::relief;
 
 // Whether the low of a slot with these words is k or more: its rations less the spare.
-fn has_low(fed: u64, rest: u64, spare: u8, k: u8) -> bool
+pub fn has_low(fed: u64, rest: u64, spare: u8, k: u8) -> bool
     ensures { λ r. ⌜ r ≡ leb (spare + k) (ones fed + ones rest) ⌝ }
 {
     spare as u32 + k as u32 <= relief::width(fed, rest)
 }
 
-// Whether a sound placing exists with at most k − 1 feedings in slot t; if so, that is the slot's high from now on. At most one search.
+// Whether a sound placing exists with at most k − 1 feedings in slot t; if so, that is the slot's high from now on. At
+// most one search.
 pub fn idle(
     fed: &mut [u64; 96],
     rest: &mut [u64; 96],
@@ -37,7 +38,8 @@ pub fn idle(
     relief::lower(fed, rest, high, seen, t, k - 1)
 }
 
-// Whether a sound placing exists with at least k feedings in slot t; if so, that is the slot's low from now on. At most k searches.
+// Whether a sound placing exists with at least k feedings in slot t; if so, that is the slot's low from now on. At most
+// k searches.
 pub fn busy(
     fed: &mut [u64; 96],
     rest: &mut [u64; 96],
