@@ -7,7 +7,9 @@ pub mod Keeping
 pub mod StopsAt
 pub mod SettledRuns
 pub mod Worded
+pub mod Endings
 pub mod Slotwise
+pub mod SlotwiseEndings
 pub mod FeedingResidual
 pub mod Theorems
 pub mod SlotwiseLaws
@@ -15,6 +17,7 @@ pub mod SettleLaws
 pub mod SettledRunsLaws
 pub mod KeepingLaws
 pub mod StopsAtLaws
+pub mod EndingLaws
 pub mod RestDayLaws
 pub mod IntervalLaws
 pub mod FrontRunLaws

@@ -1,4 +1,5 @@
--- Parallel Left-to-Right (document 000, algorithms 1 and 2), as document 01 fixes it. Definitions only. Assumes nothing.
+-- Parallel Left-to-Right (document 000, algorithms 1 and 2), as document 01 fixes it. Definitions only. Assumes
+-- nothing.
 use mathlib.Core.Path.{_≡_}
 use mathlib.Core.Bool.{Bool, true, false, _&&_, cond}
 use mathlib.Core.List.{List}
@@ -27,14 +28,19 @@ dayBounds slots blowers = boundsUnder slots (replicate slots blowers)
 unfoldable pub onRun : ℕ → ℕ → (ℕ → ℕ) → List ℕ → List ℕ
 onRun t n f xs = zipWith (λ i x. cond (leb t i && ltb i (t + n)) (f x) x) (range 1 (length xs)) xs
 
--- blower k idle for n slots from slot t on: high there set to k − 1. (Blowers are treated from m down, so that high there is k or more; written as the
--- smaller of the two, the step also serves bounds that start below m.)
+-- blower k idle for n slots from slot t on: high there set to k − 1. (Blowers are treated from m down, so that high
+-- there is k or more; written as the smaller of the two, the step also serves bounds that start below m.)
 unfoldable pub idleFor : ℕ → ℕ → Bounds → ℕ → Bounds
 idleFor k t b n = record { low = b .low; high = onRun t n (min (k - 1)) (b .high) }
 
 -- blower k busy for n slots from slot t on: low there set to the larger of low and k
 unfoldable pub busyFor : ℕ → ℕ → Bounds → ℕ → Bounds
 busyFor k t b n = record { low = onRun t n (max k) (b .low); high = b .high }
+
+-- blower k idle (false) or busy (true) for n slots from slot t on
+abbrev pub keepFor : (k : ℕ) (busy : Bool) (t : ℕ) → Bounds → ℕ → Bounds
+keepFor k false t b n = idleFor k t b n
+keepFor k true t b n = busyFor k t b n
 
 -- the longest run: the greatest number up to n that passes the test, 0 where none above it does
 unfoldable pub longest : (ℕ → Bool) → ℕ → ℕ
@@ -48,15 +54,16 @@ module _ (slots : ℕ) (ds : List Demand) where
   abbrev pub feasibleUnder : Bounds → Bool
   feasibleUnder b = feasible slots ds (b .low) (b .high)
 
-  -- the longest run from slot t on, possibly none, for which blower k can be idle, and the longest for which it can be busy
+  -- the longest run from slot t on, possibly none, for which blower k can be idle, and the longest for which it can be
+  -- busy
   unfoldable pub idleRun : (k t : ℕ) → Bounds → ℕ
   idleRun k t b = longest (λ n. feasibleUnder (idleFor k t b n)) (suc slots - t)
 
   unfoldable pub busyRun : (k t : ℕ) → Bounds → ℕ
   busyRun k t b = longest (λ n. feasibleUnder (busyFor k t b n)) (suc slots - t)
 
-  -- blower k from slot t on: idle for the longest run, then busy for the longest run, and so on to the last slot. Past it nothing changes, and each turn
-  -- passes a slot, so that `slots` turns are enough.
+  -- blower k from slot t on: idle for the longest run, then busy for the longest run, and so on to the last slot. Past
+  -- it nothing changes, and each turn passes a slot, so that `slots` turns are enough.
   unfoldable pub settle : (k turns t : ℕ) → Bounds → Bounds
   settle k zero t b = b
   settle k (suc turns) t b =

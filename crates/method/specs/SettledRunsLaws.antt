@@ -7,12 +7,12 @@ use native.Mathlib.Omega.{arith}
 use lib.Dec.{leb}
 use borrow.Author.Tests.{leb-true, leb-false}
 use Rattle.schedules.specs.Schedules.{Demand, Windows}
-use Rattle.method.specs.Method.{Bounds, FeasibleDay, idleFor, busyFor, idleRun, busyRun, feasibleUnder, settle, settleAll, loads}
+use Rattle.method.specs.Method.{Bounds, FeasibleDay, idleFor, busyFor, keepFor, idleRun, busyRun, feasibleUnder, settle, settleAll, loads}
 use Rattle.method.specs.Intervals.{Interval, join, runs, intervals}
 use Rattle.method.specs.Slotwise.{keepAt, busyFrom}
 use Rattle.method.specs.SettledRuns.{stretchOf, settledRuns, boundsAtTurn}
 use Rattle.method.specs.StepLaws.{keepAt-sized, other-possible, busyAt-stays, busyAt-changes}
-use Rattle.method.specs.SlotwiseLaws.{keepFor, keepFor-none, keepFor-suc, run, run-stays, run-changes, run-past, double, double-is, settle-slotwise}
+use Rattle.method.specs.SlotwiseLaws.{keepFor-none, keepFor-suc, run, run-stays, run-changes, run-past, double, double-is, settle-slotwise}
 use Rattle.method.specs.SettleLaws.{settleFrom-possible, settleAll-slotwise, counts-busyFrom}
 
 -- A slot joined to what follows -----------------------------------------------
@@ -163,7 +163,7 @@ module _ {slots : ℕ} {ds : List Demand} (w : Windows slots ds) (k : ℕ) where
           alternateRuns-none busy (suc turns) (suc t) b (run-changes w k busy t b (h .sized) q)
           ∙ rw (busyAt-changes slots ds k busy t b q) (alternateRuns-join (not busy) n turns t b (keeps (not busy) o) e o (ih (not busy) turns (keeps (not busy) o) (omega arith)))
 
-  settledRuns-busyFrom : {b : Bounds} → FeasibleDay slots ds b → settledRuns slots ds k slots 1 b ≡ runs 1 (busyFrom slots ds k false slots 0 b)
+  pub settledRuns-busyFrom : {b : Bounds} → FeasibleDay slots ds b → settledRuns slots ds k slots 1 b ≡ runs 1 (busyFrom slots ds k false slots 0 b)
   settledRuns-busyFrom {b} h =
       settledRuns-alternate slots ds k slots 1 b
       ∙ alternateRuns-busyFrom false slots (double slots) 0 h (omega arith) (omega (arith, double-is slots))

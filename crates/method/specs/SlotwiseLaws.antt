@@ -1,24 +1,19 @@
--- The method slot by slot is the method by longest runs. A turn of `settle` is an idle run and a busy one; here they are taken one run at a time,
--- and each run one slot at a time. Every run but the first is not empty, since where a blower cannot be idle it can be busy and the other
--- way round; so the turns suffice. Assumes nothing.
+-- The method slot by slot is the method by longest runs. A turn of `settle` is an idle run and a busy one; here they
+-- are taken one run at a time, and each run one slot at a time. Every run but the first is not empty, since where a
+-- blower cannot be idle it can be busy and the other way round; so the turns suffice. Assumes nothing.
 use mathlib.Core.Path.{_≡_, refl, sym, _∙_, ap, ap₂, fun-ext}
 use mathlib.Core.Bool.{Bool, true, false, not, false≢true}
 use mathlib.Core.List.{List}
 use Prim.Native.Nat.{ℕ, zero, suc, _+_, _-_, _≤_, _<_, min, max}
 use native.Mathlib.Omega.{arith}
 use Rattle.schedules.specs.Schedules.{Demand, Windows}
-use Rattle.method.specs.Method.{Bounds, Sized, FeasibleDay, idleFor, busyFor, longest, idleRun, busyRun, feasibleUnder, settle}
+use Rattle.method.specs.Method.{Bounds, Sized, FeasibleDay, idleFor, busyFor, keepFor, longest, idleRun, busyRun, feasibleUnder, settle}
 use Rattle.method.specs.Slotwise.{keepAt, settleFrom}
 use Rattle.method.specs.RunLaws.{length-onRun, onRun-none, onRun-suc}
 use Rattle.method.specs.LongestLaws.{longest-zero, longest-none, longest-suc}
 use Rattle.method.specs.StepLaws.{Tighter, tighter-refl, tighter-trans, keepAt-sized, keepAt-tighter, tighter-possible, other-possible, settleFrom-stays, settleFrom-changes}
 
 -- A run, idle or busy ---------------------------------------------------------
-
--- blower k idle (false) or busy (true) for n slots from slot t on
-abbrev pub keepFor : (k : ℕ) (busy : Bool) (t : ℕ) → Bounds → ℕ → Bounds
-keepFor k false t b n = idleFor k t b n
-keepFor k true t b n = busyFor k t b n
 
 module _ (k : ℕ) where
   pub keepFor-none : (busy : Bool) (t : ℕ) (b : Bounds) → keepFor k busy t b 0 ≡ b

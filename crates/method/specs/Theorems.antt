@@ -1,5 +1,5 @@
--- The main facts of this layer, (a) to (e), for every day whose windows and bounds have an entry for each slot and that has a sound placing. Here are
--- the statements; the law files have the proofs. Assumes nothing.
+-- The main facts of this layer, (a) to (f), for every day whose windows and bounds have an entry for each slot and that
+-- has a sound placing. Here are the statements; the law files have the proofs. Assumes nothing.
 use mathlib.Core.Path.{_≡_, _∙_, ap}
 use mathlib.Core.Logic.{_↔_}
 use mathlib.Core.Bool.{Bool, true, false, not}
@@ -12,6 +12,7 @@ use Rattle.method.specs.Method.{Bounds, dayBounds, FeasibleDay, idleFor,
 use Rattle.method.specs.Intervals.{Interval, intervals, busyIn, LongestRun}
 use Rattle.method.specs.Keeping.{Keeps, stretches, StretchesStop}
 use Rattle.method.specs.SettledRuns.{settledRuns, boundsAtTurn}
+use Rattle.method.specs.Endings.{EndedStretch, inOrder, endings, Explained}
 use Rattle.method.specs.Slotwise.{keepAt, settleFrom, settleEach}
 use Rattle.method.specs.Worded.{settleAllWorded, runsWorded, boundsWorded}
 use Rattle.method.specs.WordedLaws.{settleAll-worded, runs-worded, day-least}
@@ -21,6 +22,7 @@ use Rattle.method.specs.SlotwiseLaws.{keepFor-none, settle-slotwise}
 use Rattle.method.specs.SettleLaws as Settle
 use Rattle.method.specs.SettledRunsLaws as Runs
 use Rattle.method.specs.KeepingLaws as Keep
+use Rattle.method.specs.EndingLaws as Ends
 use Rattle.method.specs.IntervalLaws.{interval-longest}
 
 -- A day that is not held can be planned: its bounds, low 0 and high m, are such as the theorems ask for.
@@ -33,7 +35,8 @@ day-possible slots m ds e = record {
 pub day-high : (slots m t : ℕ) → t < slots → getD (dayBounds slots m .high) t 0 ≤ m
 day-high slots m t l = omega (arith, getD-replicate slots t m 0 l)
 
--- The method with its idle step worded as in document 01, high set to k − 1, is this method on the bounds that a day begins with.
+-- The method with its idle step worded as in document 01, high set to k − 1, is this method on the bounds that a day
+-- begins with.
 pub settled-as-worded : (slots m : ℕ) (ds : List Demand) → settleAllWorded slots ds m (dayBounds slots m) ≡ settleAll slots ds m (dayBounds slots m)
 settled-as-worded slots m ds = settleAll-worded slots ds m (dayBounds slots m) (day-least slots ds m)
 
@@ -63,8 +66,9 @@ module _ {slots : ℕ} {ds : List Demand} (w : Windows slots ds) {b : Bounds} (h
     unfolding busyRun
     busy-run-longest = le-longest (λ n. feasibleUnder slots ds (busyFor k t b n)) (suc slots - t)
 
-  -- (b) One slot more at a time settles the same: where a blower cannot stay as it is, idle or busy, it can change over. (A step of the slotwise form, by
-  -- the answer for one slot: `settleFrom-stays` and `settleFrom-changes` of StepLaws.antt.)
+  -- (b) One slot more at a time settles the same: where a blower cannot stay as it is, idle or busy, it can change
+  -- over. (A step of the slotwise form, by the answer for one slot: `settleFrom-stays` and `settleFrom-changes` of
+  -- StepLaws.antt.)
   pub can-change : (k : ℕ) (busy : Bool) (t : ℕ) → t < slots → feasibleUnder slots ds (keepAt k busy t b) ≡ false
       → feasibleUnder slots ds (keepAt k (not busy) t b) ≡ true
   can-change k busy t l = other-possible w k busy t h l
@@ -89,7 +93,8 @@ module _ {slots : ℕ} {ds : List Demand} (w : Windows slots ds) {b : Bounds} (h
       pub low-is-high : settleAll slots ds m b .low ≡ settleAll slots ds m b .high
       low-is-high = rw (settleAll-is-slotwise m) (Settle.settled-low-high w m h below)
 
-      -- The counts are the loads of a sound placing: one that is sound under the settled bounds, and every such placing has these loads.
+      -- The counts are the loads of a sound placing: one that is sound under the settled bounds, and every such placing
+      -- has these loads.
       pub settled-loads : (p : Schedule) → Sound slots ds (settleAll slots ds m b .low) (settleAll slots ds m b .high) p → load slots p ≡ loads slots ds m b
       unfolding loads
       settled-loads p s = Settle.sound-load w {c = settleAll slots ds m b} (settleAll-possible .sized) low-is-high s
@@ -106,8 +111,9 @@ module _ {slots : ℕ} {ds : List Demand} (w : Windows slots ds) {b : Bounds} (h
       unfolding loads
       loads-feasible = rw (← low-is-high) at (settleAll-possible .possible)
 
-    -- (d) The stretches read off the counts are the runs that the method took when it came to that blower. (By `interval-is-longest-run` below they
-    -- are the longest runs of slots in which the blower is busy, or idle, throughout.)
+    -- (d) The stretches read off the counts are the runs that the method took when it came to that blower. (By
+    -- `interval-is-longest-run` below they are the longest runs of slots in which the blower is busy, or idle,
+    -- throughout.)
     pub intervals-are-settled : (k : ℕ) → 1 ≤ k → k ≤ m
         → intervals (loads slots ds m b) k ≡ settledRuns slots ds k slots 1 (boundsAtTurn slots ds m k b)
     intervals-are-settled = Runs.intervals-settled w m h
@@ -118,6 +124,10 @@ module _ {slots : ℕ} {ds : List Demand} (w : Windows slots ds) {b : Bounds} (h
       where
         loads-are : loads slots ds m b ≡ settleEach slots ds m b .low
         loads-are = Settle.loads-slotwise w m h
+
+    -- (f) Every stretch that ends before the last slot has its cause, and it is the true one.
+    pub stretches-explained : (e : EndedStretch) → List·Memᴰ e (endings slots ds b (inOrder (stretches (loads slots ds m b)) m)) → Explained slots ds e
+    stretches-explained = Ends.endings-explained w m h
 
 -- Stretches as they are read off any counts -----------------------------------
 

@@ -1,14 +1,14 @@
--- What the code of the method requires and ensures, over words that hold a sound placing under bounds: F, R, H and C as crate `placing` names them, with a
--- stroke as they are afterwards. Definitions only. Assumes nothing.
+-- What the code of the method requires and ensures, over words that hold a sound placing under bounds: F, R, H and C as
+-- crate `placing` names them, with a stroke as they are afterwards. Definitions only. Assumes nothing.
 use mathlib.Core.Path.{_≡_}
 use mathlib.Core.Logic.{_≢_}
-use mathlib.Core.Bool.{Bool, false}
+use mathlib.Core.Bool.{Bool, true, false}
 use mathlib.Core.List.{List}
 use Prim.Native.Nat.{ℕ, _-_, _≤_, _<_}
 use lib.ListN.{getD}
 use Rattle.schedules.specs.Schedules.{Demand}
 use Rattle.placing.specs.Represents.{Represents}
-use Rattle.method.specs.Method.{Bounds}
+use Rattle.method.specs.Method.{Bounds, feasibleUnder}
 use Rattle.method.specs.Slotwise.{keepAt, busyAt, settleFrom, settleEach}
 
 -- the words hold a sound placing of the demands under these bounds
@@ -26,6 +26,14 @@ pub record SomeSlot (t : ℕ) (F R H C : List ℕ) : Type 0 where
   pub slots : ℕ
   pub day : SomeDay slots F R H C
   pub inside : t < slots
+
+-- `keep` answers whether blower k can be idle or busy in slot t + 1; if so the words keep that, and if not they hold
+-- the same day as before
+pub record Kept (r : Bool) (k : ℕ) (busy : Bool) (t : ℕ) (F R H C F′ R′ H′ C′ : List ℕ) : Type 0 where
+  pub answer : (slots : ℕ) (ds : List Demand) (b : Bounds) → Under slots ds b F R H C → t < slots → r ≡ feasibleUnder slots ds (keepAt k busy t b)
+  pub yes : r ≡ true → (slots : ℕ) (ds : List Demand) (b : Bounds) → Under slots ds b F R H C → t < slots → Under slots ds (keepAt k busy t b) F′ R′ H′ C′
+  pub no : r ≡ false → (slots : ℕ) (ds : List Demand) (b : Bounds) → Under slots ds b F R H C → t < slots → Under slots ds b F′ R′ H′ C′
+  pub others : (u : ℕ) → u ≢ t → getD H′ u 0 ≡ getD H u 0
 
 -- what `step` ensures: r is what blower k does in slot t + 1, and the words keep that
 pub record Stepped (r : Bool) (k : ℕ) (busy : Bool) (t : ℕ) (F R H C F′ R′ H′ C′ : List ℕ) : Type 0 where
@@ -49,7 +57,8 @@ pub record AllSettled (slots m : ℕ) (F R H C F′ R′ H′ C′ : List ℕ) :
       → Under slots ds (settleEach slots ds m b) F′ R′ H′ C′
   pub past : SamePast slots H H′
 
--- blower k is settled in the slots before slot t + 1, up to which it is idle or busy: what is left to settle is what is left of the whole
+-- blower k is settled in the slots before slot t + 1, up to which it is idle or busy: what is left to settle is what is
+-- left of the whole
 pub record Left (slots k : ℕ) (busy : Bool) (t : ℕ) (ds : List Demand) (b : Bounds) (F R H C : List ℕ) : Type 0 where
   pub bounds : Bounds
   pub under : Under slots ds bounds F R H C

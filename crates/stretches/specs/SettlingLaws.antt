@@ -1,6 +1,6 @@
 -- How the code of the method goes on by one slot and by one blower. Assumes nothing.
 use mathlib.Core.Path.{_≡_, refl, sym, ap, _∙_, subst}
-use mathlib.Core.Bool.{Bool, true, false}
+use mathlib.Core.Bool.{Bool, true, false, not}
 use mathlib.Core.List.{List}
 use Prim.Native.Nat.{ℕ, zero, suc, _+_, _-_, _≤_, _<_}
 use native.Mathlib.Numerals.{add-one}
@@ -11,7 +11,7 @@ use Rattle.placing.specs.StepLaws.{represents-feasible, represents-ready}
 use Rattle.method.specs.Method.{Bounds, FeasibleDay, feasibleUnder}
 use Rattle.method.specs.Slotwise.{keepAt, settleFrom, settleEach}
 use Rattle.method.specs.StepLaws.{other-possible, busyAt-stays, busyAt-changes}
-use Rattle.stretches.specs.Settling.{Under, SomeDay, SomeSlot, Stepped, Settled, Left, LeftBlowers, Passing, PassingBlowers}
+use Rattle.stretches.specs.Settling.{Under, SomeDay, SomeSlot, Kept, Stepped, Settled, Left, LeftBlowers, Passing, PassingBlowers}
 
 -- words that hold a day say that it has a sound placing
 pub under-possible : {slots : ℕ} {ds : List Demand} {b : Bounds} {F R H C : List ℕ} → Under slots ds b F R H C → FeasibleDay slots ds b
@@ -21,72 +21,57 @@ pub slot-ready : {t : ℕ} {F R H C : List ℕ} → SomeSlot t F R H C → Ready
 slot-ready s = represents-ready (s .day .under) _ (s .inside)
 
 module _ {t k : ℕ} {F R H C : List ℕ} where
-  -- after a question that was answered no, some day's slot again
-  pub idle-again : {F′ R′ H′ : List ℕ} {r : Bool} → SomeSlot t F R H C → Idled r F R H C F′ R′ H′ t k → r ≡ false → SomeSlot t F′ R′ H′ C
-  idle-again s i e =
+  pub kept-idle : {r : Bool} {F′ R′ H′ : List ℕ} → Idled r F R H C F′ R′ H′ t k → Kept r k false t F R H C F′ R′ H′ C
+  kept-idle i =
       record {
-        slots = s .slots;
-        day = record { demands = s .day .demands; bounds = s .day .bounds; under = i .no e _ _ _ _ (s .day .under) (s .inside) };
-        inside = s .inside;
-      }
-
-  pub busy-again : {F′ R′ C′ : List ℕ} {r : Bool} → SomeSlot t F R H C → Busied r F R H C F′ R′ C′ t k → r ≡ false → SomeSlot t F′ R′ H C′
-  busy-again s i e =
-      record {
-        slots = s .slots;
-        day = record { demands = s .day .demands; bounds = s .day .bounds; under = i .no e _ _ _ _ (s .day .under) (s .inside) };
-        inside = s .inside;
-      }
-
-  -- the blower stays idle
-  pub stays-idle : {F′ R′ H′ : List ℕ} {r : Bool} → Idled r F R H C F′ R′ H′ t k → r ≡ true → Stepped false k false t F R H C F′ R′ H′ C
-  stays-idle {r} i e =
-      record {
-        does = λ slots ds b u l. sym (busyAt-stays slots ds k false t b (sym (i .answer slots ds (b .low) (b .high) u l) ∙ e));
-        keeps = λ slots ds b u l. i .yes e slots ds (b .low) (b .high) u l;
+        answer = λ slots ds b u l. i .answer slots ds (b .low) (b .high) u l;
+        yes = λ e slots ds b u l. i .yes e slots ds (b .low) (b .high) u l;
+        no = λ e slots ds b u l. i .no e slots ds (b .low) (b .high) u l;
         others = i .others;
       }
 
-  -- it stays busy
-  pub stays-busy : {F′ R′ C′ : List ℕ} {r : Bool} → Busied r F R H C F′ R′ C′ t k → r ≡ true → Stepped true k true t F R H C F′ R′ H C′
-  stays-busy i e =
+  pub kept-busy : {r : Bool} {F′ R′ C′ : List ℕ} → Busied r F R H C F′ R′ C′ t k → Kept r k true t F R H C F′ R′ H C′
+  kept-busy i =
       record {
-        does = λ slots ds b u l. sym (busyAt-stays slots ds k true t b (sym (i .answer slots ds (b .low) (b .high) u l) ∙ e));
-        keeps = λ slots ds b u l. i .yes e slots ds (b .low) (b .high) u l;
+        answer = λ slots ds b u l. i .answer slots ds (b .low) (b .high) u l;
+        yes = λ e slots ds b u l. i .yes e slots ds (b .low) (b .high) u l;
+        no = λ e slots ds b u l. i .no e slots ds (b .low) (b .high) u l;
         others = λ u n. refl;
       }
 
-  -- it can't stay idle, and so it can be busy
-  pub turns-busy : {F₁ R₁ H₁ F′ R′ C′ : List ℕ} {r q : Bool} → Idled r F R H C F₁ R₁ H₁ t k → r ≡ false → Busied q F₁ R₁ H₁ C F′ R′ C′ t k
-      → Stepped true k false t F R H C F′ R′ H₁ C′
-  turns-busy i e j =
-      record {
-        does = λ slots ds b u l. sym (busyAt-changes slots ds k false t b (cannot slots ds b u l));
-        keeps = λ slots ds b u l.
-            let v = i .no e slots ds (b .low) (b .high) u l in
-            j .yes (j .answer slots ds (b .low) (b .high) v l ∙ other-possible (u .windows) k false t (under-possible u) l (cannot slots ds b u l))
-            slots ds (b .low) (b .high) v l;
-        others = i .others;
-      }
-    where
-      cannot : (slots : ℕ) (ds : List Demand) (b : Bounds) → Under slots ds b F R H C → t < slots → feasibleUnder slots ds (keepAt k false t b) ≡ false
-      cannot slots ds b u l = sym (i .answer slots ds (b .low) (b .high) u l) ∙ e
+  module _ {busy r : Bool} {F₁ R₁ H₁ C₁ : List ℕ} (a : Kept r k busy t F R H C F₁ R₁ H₁ C₁) where
+    -- the blower stays as it is
+    pub stays : r ≡ true → Stepped busy k busy t F R H C F₁ R₁ H₁ C₁
+    stays e =
+        record {
+          does = λ slots ds b u l. sym (busyAt-stays slots ds k busy t b (sym (a .answer slots ds b u l) ∙ e));
+          keeps = λ slots ds b u l. a .yes e slots ds b u l;
+          others = a .others;
+        }
 
-  -- it can't stay busy, and so it can be idle
-  pub turns-idle : {F₁ R₁ C₁ F′ R′ H′ : List ℕ} {r q : Bool} → Busied r F R H C F₁ R₁ C₁ t k → r ≡ false → Idled q F₁ R₁ H C₁ F′ R′ H′ t k
-      → Stepped false k true t F R H C F′ R′ H′ C₁
-  turns-idle i e j =
-      record {
-        does = λ slots ds b u l. sym (busyAt-changes slots ds k true t b (cannot slots ds b u l));
-        keeps = λ slots ds b u l.
-            let v = i .no e slots ds (b .low) (b .high) u l in
-            j .yes (j .answer slots ds (b .low) (b .high) v l ∙ other-possible (u .windows) k true t (under-possible u) l (cannot slots ds b u l))
-            slots ds (b .low) (b .high) v l;
-        others = j .others;
-      }
-    where
-      cannot : (slots : ℕ) (ds : List Demand) (b : Bounds) → Under slots ds b F R H C → t < slots → feasibleUnder slots ds (keepAt k true t b) ≡ false
-      cannot slots ds b u l = sym (i .answer slots ds (b .low) (b .high) u l) ∙ e
+    module _ (e : r ≡ false) where
+      pub cannot-stay : (slots : ℕ) (ds : List Demand) (b : Bounds) → Under slots ds b F R H C → t < slots → feasibleUnder slots ds (keepAt k busy t b) ≡ false
+      cannot-stay slots ds b u l = sym (a .answer slots ds b u l) ∙ e
+
+      -- after a question that was answered no, some day's slot again
+      pub slot-again : SomeSlot t F R H C → SomeSlot t F₁ R₁ H₁ C₁
+      slot-again s =
+          record {
+            slots = s .slots;
+            day = record { demands = s .day .demands; bounds = s .day .bounds; under = a .no e _ _ _ (s .day .under) (s .inside) };
+            inside = s .inside;
+          }
+
+      -- it can't, and so it can change over
+      pub turns : {q : Bool} {F′ R′ H′ C′ : List ℕ} → Kept q k (not busy) t F₁ R₁ H₁ C₁ F′ R′ H′ C′ → Stepped (not busy) k busy t F R H C F′ R′ H′ C′
+      turns o =
+          record {
+            does = λ slots ds b u l. sym (busyAt-changes slots ds k busy t b (cannot-stay slots ds b u l));
+            keeps = λ slots ds b u l.
+                let v = a .no e slots ds b u l in
+                o .yes (o .answer slots ds b v l ∙ other-possible (u .windows) k busy t (under-possible u) l (cannot-stay slots ds b u l)) slots ds b v l;
+            others = λ u n. o .others u n ∙ a .others u n;
+          }
 
 -- ---- the slots of a blower
 

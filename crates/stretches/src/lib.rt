@@ -16,6 +16,7 @@ pub use intervals::is_busy;
 pub use intervals::stretch_end;
 pub use planning::plan_day;
 pub use planning::plan_words;
+pub use settle::keep;
 
 // A day planned, or held for want of blowers.
 pub struct Day {

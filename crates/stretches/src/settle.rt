@@ -1,10 +1,33 @@
 // The method, slot by slot.
 ghost use mathlib.Core.Path.{_≡_};
 ghost use Prim.Native.Nat.{_≤_, _<_};
-ghost use Rattle.stretches.specs.Settling.{SomeSlot, SomeDay, Stepped, Settled, AllSettled};
+ghost use Rattle.stretches.specs.Settling.{SomeSlot, SomeDay, Kept, Stepped, Settled, AllSettled};
 use placing::steps;
 
-// What blower k does in slot t + 1, after it was idle or busy: the same if a sound placing exists with it, else the other.
+// Keeps blower k idle or busy in slot t + 1, if a sound placing exists with that, and says whether one does. Crate
+// `endings` settles by it too.
+pub fn keep(
+    fed: &mut [u64; 96],
+    rest: &mut [u64; 96],
+    high: &mut [u8; 96],
+    spare: &mut [u8; 96],
+    seen: &mut [u8; 96],
+    t: usize,
+    k: u8,
+    is_busy: bool,
+) -> bool
+    requires { ⌜ SomeSlot t (now fed) (now rest) (now high) (now spare) × (1 ≤ k) ⌝ }
+    ensures { λ r. ⌜ Kept r k «is_busy» t (now (fed .entry)) (now (rest .entry)) (now (high .entry)) (now (spare .entry))
+        (now (fed .exit)) (now (rest .exit)) (now (high .exit)) (now (spare .exit)) ⌝ }
+{
+    if is_busy {
+        return steps::busy(fed, rest, high, spare, seen, t, k);
+    }
+    steps::idle(fed, rest, high, spare, seen, t, k)
+}
+
+// What blower k does in slot t + 1, after it was idle or busy: the same if a sound placing exists with it, else the
+// other.
 fn step(
     fed: &mut [u64; 96],
     rest: &mut [u64; 96],
@@ -19,18 +42,11 @@ fn step(
     ensures { λ r. ⌜ Stepped r k «is_busy» t (now (fed .entry)) (now (rest .entry)) (now (high .entry)) (now (spare .entry))
         (now (fed .exit)) (now (rest .exit)) (now (high .exit)) (now (spare .exit)) ⌝ }
 {
-    if is_busy {
-        if steps::busy(fed, rest, high, spare, seen, t, k) {
-            return true;
-        }
-        steps::idle(fed, rest, high, spare, seen, t, k);
-        return false;
+    if keep(fed, rest, high, spare, seen, t, k, is_busy) {
+        return is_busy;
     }
-    if steps::idle(fed, rest, high, spare, seen, t, k) {
-        return false;
-    }
-    steps::busy(fed, rest, high, spare, seen, t, k);
-    true
+    keep(fed, rest, high, spare, seen, t, k, !is_busy);
+    !is_busy
 }
 
 // Settles blower k in every slot of the day: it begins idle.
