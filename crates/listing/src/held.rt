@@ -1,4 +1,5 @@
-// The listing of a sheet held for want of blowers: 12, the number of slots shown, forced, capacity, then a line for each slot.
+// The listing of a sheet held for want of blowers: 12, the number of slots shown, forced, capacity, then a line for
+// each slot.
 use crate::opening;
 use checks::refusals::NO_PLACING;
 use line::layout::LINE;
@@ -25,7 +26,7 @@ fn put_member(out: &mut [u8], at: usize, slot: u32, mark: u8) -> usize
 }
 
 // Writes a line for each slot that is marked, from a place of out on, and answers how many.
-fn put_members(out: &mut [u8], at: usize, slots: usize, marks: &[u8; 96]) -> usize
+pub fn put_members(out: &mut [u8], at: usize, slots: usize, marks: &[u8; 96]) -> usize
     requires { ⌜ CanPutMembers (now out) at slots (now marks) ⌝ }
     ensures { λ r. ⌜ Put (memberLines 1 (setOf slots (now (marks .entry)))) at (now (out .entry)) (now (out .exit)) r ⌝ }
 {

@@ -1,4 +1,5 @@
--- The sizes of the buffers that a planning call is lent, as document 01 and request 103 give them; src/sizes.rt names the same for the code. Assumes nothing.
+-- The sizes of the buffers that the calls which plan are lent, as document 01 and requests 103 and 105 give them;
+-- src/sizes.rt names the same for the code. Assumes nothing.
 use Prim.Native.Nat.{ℕ, _+_, _*_}
 use Rattle.line.specs.Layout.{lineBytes}
 use Rattle.checks.specs.Limits.{maxSlots, maxBlowers, maxRations}
@@ -7,11 +8,15 @@ use Rattle.checks.specs.Limits.{maxSlots, maxBlowers, maxRations}
 abbrev pub wordBytes : ℕ
 wordBytes = 5
 
--- the least length of a plan buffer, 32,303: room for the word, the head line, a stretch line and a feed line for each slot of each blower, and the bill's
--- line
+-- the least length of a plan buffer, 32,303: room for the word, the head line, a stretch line and a feed line for each
+-- slot of each blower, and the bill's line
 abbrev pub planBytes : ℕ
 planBytes = wordBytes + lineBytes * (2 + 2 * (maxSlots * maxBlowers))
 
 -- the least length of a placing buffer, 6,144: a byte for each slot of each ration
 abbrev pub gridBytes : ℕ
 gridBytes = maxSlots * maxRations
+
+-- the least length of a causes' buffer, and the most that their listing takes
+abbrev pub causesBytes : ℕ
+causesBytes = 65536

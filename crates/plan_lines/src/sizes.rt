@@ -1,11 +1,16 @@
-// The sizes of the buffers that a planning call is lent, each named once. specs/Sizes.antt names the same for the definitions.
+// The sizes of the buffers that the calls which plan are lent, each named once. specs/Sizes.antt names the same for the
+// definitions.
 use line::layout::LINE;
 
 // bytes of the word that opens a listing, with its byte 10
 pub const WORD: usize = 5;
 
-// the least length of a plan buffer, 32,303: room for the word, the head line, a stretch line and a feed line for each slot of each blower, and the bill's line
+// the least length of a plan buffer, 32,303: room for the word, the head line, a stretch line and a feed line for each
+// slot of each blower, and the bill's line
 pub const PLAN_BYTES: usize = WORD + LINE * (2 + 2 * (96 * 8));
 
 // the least length of a placing buffer, 6,144: a byte for each slot of each ration
 pub const GRID_BYTES: usize = 96 * 64;
+
+// the least length of a causes' buffer, and the most that their listing takes
+pub const CAUSES_BYTES: usize = 65536;

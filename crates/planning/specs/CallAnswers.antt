@@ -94,7 +94,7 @@ module _ {own : List Refusal} {s : Sheet} {r : Reading} (h : ReadFrom own s r) (
     abbrev read : Refusal
     read = record { number = r .number; line = r .line }
 
-    by-read : read ≡ refusal
+    pub by-read : read ≡ refusal
     by-read = sym (refused-before h n (fault shortBuffer 0 short ++ heldFaults p))
 
     silent : writes (r .number) ≡ false
@@ -118,7 +118,7 @@ module _ {own : List Refusal} {s : Sheet} {r : Reading} (h : ReadFrom own s r) (
       abbrev tooShort : Refusal
       tooShort = record { number = shortBuffer; line = 0 }
 
-      by-short : tooShort ≡ refusal
+      pub by-short : tooShort ≡ refusal
       unfolding firstRefusal
       by-short = sym (after-read ∙ ap (λ x. firstRefusal (fault shortBuffer 0 x ++ heldFaults p)) l)
 
@@ -133,13 +133,16 @@ module _ {own : List Refusal} {s : Sheet} {r : Reading} (h : ReadFrom own s r) (
       pub unlisted-short : record { number = shortBuffer; line = 0; length = 0 } ≡ unlistedAnswer refusal
       unlisted-short = unlisted tooShort ∙ ap unlistedAnswer by-short
 
-    -- planned, or held
+    -- planned, or held: x says which
+    pub by-outcome : short ≡ false → (x : Bool) → x ≡ not (canBePlanned p) → record { number = NumberOf x; line = 0 } ≡ refusal
+    by-outcome l x k = sym (after-read ∙ ap (λ y. firstRefusal (fault shortBuffer 0 y ++ heldFaults p)) l ∙ day-refusal p x k)
+
     module _ (l : short ≡ false) {d : Day} (k : DayOf p r d) where
       abbrev outcome : Refusal
       outcome = record { number = NumberOf (d .held); line = 0 }
 
       by-day : outcome ≡ refusal
-      by-day = sym (after-read ∙ ap (λ x. firstRefusal (fault shortBuffer 0 x ++ heldFaults p)) l ∙ day-refusal p (d .held) (k .held))
+      by-day = by-outcome l (d .held) (k .held)
 
       pub listed-day : {old new : List ℕ} {n : ℕ} → Written (listingOf p) old new n → Listed refusal (listingOf p) old new (record { number = NumberOf (d .held); line = 0; length = n })
       listed-day {old} {new} {n} w =

@@ -23,6 +23,7 @@ use Rattle.sheet.specs.OwnChecks.{ReadFrom}
 use Rattle.sheet.specs.OwnCheckLaws.{read-is, read-values}
 use Rattle.theory.specs.SumsOver.{one}
 use Rattle.schedules.specs.Slots.{has}
+use Rattle.schedules.specs.Schedules.{Demand}
 use Rattle.schedules.specs.Shortfall.{forced, capacity}
 use Rattle.schedules.specs.Demands.{noLow, fullHigh}
 use Rattle.placing.specs.Rations.{demandsFrom}
@@ -193,15 +194,22 @@ module _ {p : Problem} {r : Reading} {d : Day} (h : DayOf p r d) where
 
 -- The day of a sheet that was read, planned alone ------------------------------------------
 
-pub day-alone : {own : List Refusal} {s : Sheet} {r : Reading} → ReadFrom own s r → r .number ≡ 0 → {d : Day}
-    → DayPlanned d (r .slots) (r .blowers) (demandsFrom (r .slots) (r .rations) (r .numbers)) (replicate (r .slots) (r .blowers)) → DayOf (alone s) r d
+-- what holds of the day that was read holds of the sheet planned alone
+pub read-alone : {own : List Refusal} {s : Sheet} {r : Reading} → ReadFrom own s r → r .number ≡ 0
+    → (P : (slots m : ℕ) → List Demand → (high : List ℕ) → Type 0)
+    → P (r .slots) (r .blowers) (demandsFrom (r .slots) (r .rations) (r .numbers)) (replicate (r .slots) (r .blowers))
+    → P (s .slots) (s .blowers) (left (alone s)) (room (alone s))
 unfolding fullHigh
-day-alone {own} {s} {r} h z {d} p =
-    day-of-whole (alone s) (alone-in-range s (read-values h z)) refl (read-is h z)
-    (subst (λ ds. DayPlanned d (s .slots) (s .blowers) ds (room (alone s))) (a .demands ∙ sym (left-alone s))
-    (subst (λ high. DayPlanned d (s .slots) (s .blowers) (demandsFrom (r .slots) (r .rations) (r .numbers)) high) (sym (room-alone s))
-    (subst (λ m. DayPlanned d (s .slots) m (demandsFrom (r .slots) (r .rations) (r .numbers)) (replicate (s .slots) m)) (a .blowers)
-    (subst (λ n. DayPlanned d n (r .blowers) (demandsFrom (r .slots) (r .rations) (r .numbers)) (replicate n (r .blowers))) (a .slots) p))))
+read-alone {own} {s} {r} h z P p =
+    subst (λ ds. P (s .slots) (s .blowers) ds (room (alone s))) (a .demands ∙ sym (left-alone s))
+    (subst (λ high. P (s .slots) (s .blowers) (demandsFrom (r .slots) (r .rations) (r .numbers)) high) (sym (room-alone s))
+    (subst (λ m. P (s .slots) m (demandsFrom (r .slots) (r .rations) (r .numbers)) (replicate (s .slots) m)) (a .blowers)
+    (subst (λ n. P n (r .blowers) (demandsFrom (r .slots) (r .rations) (r .numbers)) (replicate n (r .blowers))) (a .slots) p)))
   where
     a : SheetRead s r
     a = sheet-read h z
+
+pub day-alone : {own : List Refusal} {s : Sheet} {r : Reading} → ReadFrom own s r → r .number ≡ 0 → {d : Day}
+    → DayPlanned d (r .slots) (r .blowers) (demandsFrom (r .slots) (r .rations) (r .numbers)) (replicate (r .slots) (r .blowers)) → DayOf (alone s) r d
+day-alone {s = s} h z {d} p =
+    day-of-whole (alone s) (alone-in-range s (read-values h z)) refl (read-is h z) (read-alone h z (DayPlanned d) p)

@@ -1,4 +1,5 @@
--- The lines of a written listing are read back, where each number has at most as many digits as a field has columns. Assumes nothing.
+-- The lines of a written listing are read back, where each number has at most as many digits as a field has columns.
+-- Assumes nothing.
 use mathlib.Core.Path.{_≡_, refl, ap, ap₂, _∙_}
 use mathlib.Core.Bool.{false}
 use mathlib.Core.List.{List, [], _∷_, _++_, map, List·Memᴰ, List·Memᴰ·head, List·Memᴰ·tail}
@@ -8,7 +9,7 @@ use lib.ListN.{length}
 use lib.Seq.{drop-at}
 use Rattle.common.specs.Lists.{range}
 use Rattle.line.specs.Layout.{width, lineBytes}
-use Rattle.checks.specs.Sheet.{lineCount, lineAt}
+use Rattle.checks.specs.Sheet.{lineAt}
 use Rattle.line.specs.Line.{valueAt, faultyLine, writeLine}
 use Rattle.line.specs.LineLaws.{length-writeLine, valueAt-writeLine, faultyLine-writeLine}
 use Rattle.checks.specs.SheetLaws.{lineAt-zero, lineAt-suc, lineCount-lines}
@@ -16,7 +17,7 @@ use Rattle.plan_lines.specs.Sizes.{wordBytes}
 use Rattle.plan_lines.specs.Lines.{Line}
 use Rattle.plan_lines.specs.Text.{writeLines}
 use Rattle.plan_lines.specs.Putting.{length-writeLines}
-use Rattle.planning.specs.ReadListing.{lineIn, linesOf}
+use Rattle.planning.specs.ReadListing.{lineIn, linesIn, linesOf}
 
 -- a line whose numbers have at most as many digits as a field has columns
 pub record FitsLine (l : Line) : Type 0 where
@@ -65,13 +66,16 @@ lines-read (l ∷ ls) h =
     (lineIn-line (writeOne l ++ writeLines ls) 0 l (lineAt-zero (writeOne l) (writeLines ls) (length-writeOne l)) (h l (List·Memᴰ·head refl)))
     (map-lineIn-suc (writeOne l) (writeLines ls) 0 (length ls) (length-writeOne l) ∙ lines-read ls (λ x m. h x (List·Memᴰ·tail m)))
 
--- A written listing's lines are read back.
+-- Written lines are read back.
+pub linesIn-written : (ls : List Line) → FitLines ls → linesIn (writeLines ls) ≡ ls
+unfolding linesIn
+linesIn-written ls h =
+    ap (λ n. map (lineIn (writeLines ls)) (range 0 n)) (lineCount-lines (writeLines ls) (length ls) (length-writeLines ls)) ∙ lines-read ls h
+
+-- and so are a listing's, after its word
 pub linesOf-written : (word : List ℕ) (ls : List Line) → length word ≡ wordBytes → FitLines ls → linesOf (word ++ writeLines ls) ≡ ls
 unfolding linesOf
-linesOf-written word ls e h =
-    ap (λ (text : List ℕ). map (lineIn text) (range 0 (lineCount text))) (drop-at word (writeLines ls) wordBytes e)
-    ∙ ap (λ n. map (lineIn (writeLines ls)) (range 0 n)) (lineCount-lines (writeLines ls) (length ls) (length-writeLines ls))
-    ∙ lines-read ls h
+linesOf-written word ls e h = ap linesIn (drop-at word (writeLines ls) wordBytes e) ∙ linesIn-written ls h
 
 -- No written line is faulty: each is in the sheet's form.
 pub faultyLine-written : (ls : List Line) (i : ℕ) → FitLines ls → i < length ls → faultyLine (lineAt (writeLines ls) i) ≡ false

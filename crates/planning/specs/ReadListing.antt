@@ -1,5 +1,6 @@
--- How a listing is read: its lines as numbers, the slots that a held sheet's listing shows, and the stretches, the feedings and the bill of a plan's. No more is
--- known here of a listing than its form. Definitions only. Assumes nothing.
+-- How a listing is read: its lines as numbers, the slots that a held sheet's listing shows, and the stretches, the
+-- feedings and the bill of a plan's. No more is known here of a listing than its form. Definitions only. Assumes
+-- nothing.
 use mathlib.Core.Bool.{Bool, _&&_}
 use mathlib.Core.List.{List, map}
 use Prim.Native.Nat.{ℕ, _+_, _*_}
@@ -30,9 +31,13 @@ written answer buffer = take (answer .length) buffer
 unfoldable pub lineIn : List ℕ → ℕ → Line
 lineIn text i = line (valueAt (lineAt text i) 0) (valueAt (lineAt text i) 1) (valueAt (lineAt text i) 2) (valueAt (lineAt text i) 3)
 
+-- all lines of a text
+unfoldable pub linesIn : List ℕ → List Line
+linesIn text = map (lineIn text) (range 0 (lineCount text))
+
 -- the lines of a listing, those after its word
 unfoldable pub linesOf : List ℕ → List Line
-linesOf listing = let text : List ℕ = drop wordBytes listing in map (lineIn text) (range 0 (lineCount text))
+linesOf listing = linesIn (drop wordBytes listing)
 
 -- the first of them, the line of counts of a held sheet and the head line of a plan
 unfoldable pub headLine : List Line → Line
