@@ -2,5 +2,6 @@
 pub mod Program
 -- The theorems a reader looks for
 pub mod Theorems
--- What the function `answer` ensures
+-- What the functions ensure
 pub mod OutputLaws
+pub mod ExplanationLaws

@@ -31,17 +31,14 @@ use Rattle.program.specs.Program.{output, outputOf}
 abbrev pub zeros : List ℕ
 zeros = replicate planBytes 0
 
-pub length-zeros : length zeros ≡ planBytes
-length-zeros = length-replicate {A = ℕ} planBytes 0
-
 -- a text at the front of zeros
-over-zeros : (text : List ℕ) → over text zeros ≡ padded planBytes text
+pub over-zeros : (n : ℕ) (text : List ℕ) → over text (replicate n 0) ≡ padded n text
 unfolding over padded
-over-zeros text = ap (λ l. text ++ l) (drop-replicate (length text) planBytes 0)
+over-zeros n text = ap (λ l. text ++ l) (drop-replicate (length text) n 0)
 
 as-output : (b text bytes : List ℕ) (n : ℕ) → text ≡ output b → bytes ≡ over text zeros → n ≡ length text → record { bytes = bytes; length = n } ≡ outputOf b
 unfolding outputOf
-as-output b text bytes n e w l = λ i. record { bytes = (w ∙ over-zeros text ∙ ap (padded planBytes) e) i; length = (l ∙ ap length e) i }
+as-output b text bytes n e w l = λ i. record { bytes = (w ∙ over-zeros planBytes text ∙ ap (padded planBytes) e) i; length = (l ∙ ap length e) i }
 
 -- what `plan` answered and left in the buffer
 module _
@@ -54,7 +51,7 @@ module _
   f = planRefusal b false
 
   room : shortPlan zeros ≡ false
-  room = room-plan zeros (omega (arith, length-zeros))
+  room = room-plan zeros (omega (arith, length-replicate {A = ℕ} planBytes 0))
 
   answered : p ≡ listedAnswer f listing
   answered = e ∙ ap (λ x. listedAnswer (planRefusal b x) listing) room

@@ -1,18 +1,23 @@
--- What the program writes: document 01, 'Sheets held' and 'The listing'. Definitions only. Assumes nothing.
-use mathlib.Core.Bool.{false, cond}
+-- What the programs write: document 01, 'Sheets held' and 'The listing', and request 105. Definitions only. Assumes
+-- nothing.
+use mathlib.Core.Bool.{Bool, false, _&&_, cond}
 use mathlib.Core.List.{List}
 use Prim.Native.Nat.{ℕ}
+use lib.Dec.{eqb}
 use lib.ListN.{length}
 use Rattle.checks.specs.declared.Refusal.{Refusal}
 use Rattle.checks.specs.Sheet.{sheetOf}
 use Rattle.common.specs.Buffers.{padded}
-use Rattle.plan_lines.specs.Sizes.{planBytes}
+use Rattle.plan_lines.specs.Sizes.{planBytes, causesBytes}
 use Rattle.plan_lines.specs.Text.{refusalText}
 use Rattle.planning.specs.Problem.{alone, listingOf}
 use Rattle.planning.specs.Planning.{planRefusal, writes}
+use Rattle.cause_lines.specs.Entries.{causesText, isCut}
+use Rattle.causes.specs.CauseCalls.{endingsOf}
 use Rattle.program.specs.declared.Output.{Output}
+use Rattle.program.specs.declared.Explanation.{Explanation}
 
--- the program's whole output for its input: for 0 and 12 the listing; for every other number `HELD`, byte 10 and one
+-- the planner's whole output for its input: for 0 and 12 the listing; for every other number `HELD`, byte 10 and one
 -- line of four fields, the refusal's number, the sheet line it names, 0, 0
 unfoldable pub output : List ℕ → List ℕ
 output b =
@@ -22,3 +27,14 @@ output b =
 -- the output and its length; the bytes past it are 0
 unfoldable pub outputOf : List ℕ → Output
 outputOf b = record { bytes = padded planBytes (output b); length = length (output b) }
+
+-- the whole output of `why`: the causes' listing where the input is planned, and otherwise what the planner writes
+unfoldable pub explanation : List ℕ → List ℕ
+explanation b = cond (eqb (planRefusal b false .number) 0) (causesText (endingsOf (alone (sheetOf b)))) (output b)
+
+-- the listing was cut
+unfoldable pub explanationCut : List ℕ → Bool
+explanationCut b = eqb (planRefusal b false .number) 0 && isCut (endingsOf (alone (sheetOf b)))
+
+unfoldable pub explanationOf : List ℕ → Explanation
+explanationOf b = record { bytes = padded causesBytes (explanation b); length = length (explanation b); cut = explanationCut b }

@@ -1,14 +1,15 @@
-// What the program writes for its input.
+// What the programs write for their input: `planner` a sheet's plan, `why` the causes of its stretches.
 //
-// The output is stated in specs/Program.antt. Only programs name this crate: a refusal's text is the program's alone,
+// The outputs are stated in specs/Program.antt. Only programs name this crate: a refusal's text is the programs' alone,
 // and a call for outsiders writes no byte on any refusal but 12.
 use checks::refusals::NO_PLACING;
 use listing::opening;
+use plan_lines::sizes::CAUSES_BYTES;
 use plan_lines::sizes::PLAN_BYTES;
 ghost use mathlib.Core.Path.{_≡_};
-ghost use Rattle.program.specs.Program.{outputOf};
+ghost use Rattle.program.specs.Program.{outputOf, explanationOf};
 
-// The program's whole output for an input, in the first `length` bytes; the others are 0.
+// The planner's whole output for an input, in the first `length` bytes; the others are 0.
 pub struct Output {
     pub bytes: [u8; PLAN_BYTES],
     pub length: usize,
@@ -34,4 +35,41 @@ pub fn answer(b: &[u8]) -> Output
     }
     let length = opening::put_refusal(&mut bytes, planned.number, planned.line);
     Output { bytes, length }
+}
+
+// The whole output of `why` for an input, in the first `length` bytes; the others are 0. `cut` says that the causes'
+// listing was cut.
+pub struct Explanation {
+    pub bytes: [u8; CAUSES_BYTES],
+    pub length: usize,
+    pub cut: bool,
+}
+
+// The causes of the stretches of the input's plan; of an input that has none, what `answer` gives.
+pub fn explain(b: &[u8]) -> Explanation
+    ensures { λ r. ⌜ r ≡ explanationOf (now (b .entry)) ⌝ }
+{
+    let mut bytes = [0u8; CAUSES_BYTES];
+    let listed = causes::list_causes(b, &mut bytes);
+    if listed.number == 0 {
+        return Explanation {
+            bytes,
+            length: listed.length,
+            cut: listed.cut,
+        };
+    }
+    if listed.number == NO_PLACING {
+        let planned = planning::plan(b, &mut bytes);
+        return Explanation {
+            bytes,
+            length: planned.length,
+            cut: false,
+        };
+    }
+    let length = opening::put_refusal(&mut bytes, listed.number, listed.line);
+    Explanation {
+        bytes,
+        length,
+        cut: false,
+    }
 }
