@@ -71,7 +71,7 @@ numbered-one own h number t l = numbered-append own (fault number 0 t) h (number
 
 -- what number 0, and what number 12, says of a call that plans: its sheet is well-formed, no buffer is too short, and
 -- the sheet is planned or held
-passed-planned : (own : List Refusal) → Numbered own → (short c : Bool) → firstRefusal (own ++ (fault shortBuffer 0 short ++ fault noPlacing 0 (not c))) .number ≡ 0
+pub passed-planned : (own : List Refusal) → Numbered own → (short c : Bool) → firstRefusal (own ++ (fault shortBuffer 0 short ++ fault noPlacing 0 (not c))) .number ≡ 0
     → (own ≡ []) × (short ≡ false) × (c ≡ true)
 unfolding firstRefusal
 passed-planned [] n true c e = absurd (omega arith)

@@ -3,7 +3,7 @@
 -- answers is demand 1, DemandOne.antt. Definitions only. Assumes nothing.
 use mathlib.Core.Path.{_≡_}
 use mathlib.Core.Logic.{_↔_}
-use mathlib.Core.Bool.{Bool, true}
+use mathlib.Core.Bool.{Bool, true, false}
 use mathlib.Core.List.{List, [], _∷_}
 use Prim.Native.Nat.{ℕ, suc, _*_, _≤_, _<_}
 use lib.IntN.{ℤ}
@@ -18,10 +18,12 @@ use Rattle.schedules.specs.Shortfall.{shortfall}
 use Rattle.schedules.specs.Demands.{demandsOf, fullHigh}
 use Rattle.marks.specs.Marks.{marked}
 use Rattle.questions.specs.Calls.{cutHighs}
-use Rattle.plan_lines.specs.Sizes.{gridBytes}
+use Rattle.plan_lines.specs.Sizes.{gridBytes, causesBytes}
 use Rattle.plan_lines.specs.Text.{refusalText, gridOf}
 use Rattle.planning.specs.Problem.{Problem, feedingsOf, planListing, heldListing}
-use Rattle.program.specs.Program.{outputOf}
+use Rattle.cause_lines.specs.Entries.{entriesText, causesText, MostThatFit}
+use Rattle.causes.specs.CauseCalls.{endingsOf}
+use Rattle.program.specs.Program.{outputOf, explanationOf}
 
 -- The number and the line -------------------------------------------------------------------
 
@@ -81,17 +83,38 @@ pub record PlacingBuffer (p : Problem) (number : ℕ) (old new : List ℕ) : Typ
   -- .. and are all 0 where nothing is planned
   pub held : number ≡ noPlacing → Front (replicate gridBytes 0) old new
 
+-- A text that lists the causes of problem p's stretches; `cut` says whether it was cut.
+pub record CausesListed (p : Problem) (cut : Bool) (text : List ℕ) : Type 0 where
+  pub text-is : text ≡ causesText (endingsOf p)
+  -- n whole entries, the first ones, as many as 65,536 bytes hold; cut exactly where all would be longer
+  pub n : ℕ
+  pub most : MostThatFit causesBytes (endingsOf p) n
+  pub whole-entries : text ≡ entriesText (take n (endingsOf p))
+  pub cut-iff : (cut ≡ true) ↔ (causesBytes < length (entriesText (endingsOf p)))
+
+-- A buffer lent to a call that lists these causes and gives this number, length and cut.
+pub record CausesBuffer (p : Problem) (number size : ℕ) (cut : Bool) (old new : List ℕ) : Type 0 where
+  -- on any number beside 0, 12 too, the buffer is as it was, the length is 0, and nothing was cut
+  pub refused : NotZero number → (size ≡ 0) × (cut ≡ false) × (new ≡ old)
+  -- on 0 it has the listing at its front, and the length is that of this text
+  pub listed : number ≡ 0 → (size ≡ length (causesText (endingsOf p))) × Front (causesText (endingsOf p)) old new
+  pub causes : number ≡ 0 → CausesListed p cut (take size new)
+
 -- A buffer lent to a call that writes sheet s.
 pub record SheetBuffer (s : Sheet) (number size : ℕ) (old new : List ℕ) : Type 0 where
   pub refused : NotZero number → (size ≡ 0) × (new ≡ old)
   -- a line for the head and one for each ration, and the length is that of this text
   pub written : number ≡ 0 → (size ≡ length (writeSheet s)) × (size ≡ lineBytes * suc (length (s .jobs))) × Front (writeSheet s) old new
 
--- what the program writes for its input: the first bytes of what `program::answer` gives, as many as its length says
+-- what the planner writes for its input: the first bytes of what `program::answer` gives, as many as its length says
 abbrev pub programText : List ℕ → List ℕ
 programText b = take (outputOf b .length) (outputOf b .bytes)
 
--- That text, where planning gives this number and this line.
+-- what the program `why` writes for its input: the first bytes of what `program::explain` gives
+abbrev pub whyText : List ℕ → List ℕ
+whyText b = take (explanationOf b .length) (explanationOf b .bytes)
+
+-- That text of the planner, where planning gives this number and this line.
 pub record ProgramText (p : Problem) (number line : ℕ) (text : List ℕ) : Type 0 where
   -- on any number beside 0 and 12: `HELD`, and a line of number, line, 0, 0
   pub refused : RefusedNotHeld number → text ≡ refusalText number line

@@ -1,6 +1,6 @@
 -- The days of 'Days at the edge' as one table: a question about a sheet's text, beside what document 01 says, and
--- requests 101 to 103 where they change that. `answer` gives the answer of the definitions; a plan's numbers are read
--- off the program's whole output. Assumes nothing.
+-- requests 101 to 105 where they change that or say more. `answer` gives the answer of the definitions; a plan's
+-- numbers are read off the program's whole output. Assumes nothing.
 use mathlib.Core.Path.{_≡_, refl}
 use mathlib.Core.Bool.{Bool, false}
 use mathlib.Core.List.{List, [], _∷_, map}
@@ -14,8 +14,8 @@ use Rattle.questions.specs.Calls.{shortfallOf, boundsOf}
 use Rattle.plan_lines.specs.Lines.{Line, line}
 use Rattle.planning.specs.Problem.{alone, countsOf}
 use Rattle.planning.specs.ReadListing.{linesOf, headLine, stretchPart, feedPart, billOn}
-use Rattle.program.specs.Program.{output}
-use Rattle.demands.specs.Meanings.{listings}
+use Rattle.program.specs.Program.{output, explanation}
+use Rattle.demands.specs.Meanings.{listings, causes}
 
 -- Questions and answers -------------------------------------------------------------
 
@@ -38,6 +38,8 @@ pub data Question : Type 0 where
   shortfallFor : Sheet → (marks : List ℕ) → Question
   -- the bounds question
   boundsFor : Sheet → (lows highs : List ℕ) → Question
+  -- what the program `why` writes
+  causesFor : Sheet → Question
   -- all lines of a tank
   linesFor : Sheet → (tank : ℕ) → Question
 
@@ -65,6 +67,7 @@ answer (feedingsFor s) = lines (feedPart (outputLines s))
 answer (billFor s) = lines (billOn (outputLines s) ∷ [])
 answer (shortfallFor s marks) = let r = shortfallOf (text s) marks in signed (r .number) (r .line) (r .shortfall)
 answer (boundsFor s lows highs) = let r = boundsOf (text s) lows highs in isYes (r .number) (r .line) (r .yes)
+answer (causesFor s) = bytes (explanation (text s))
 answer (linesFor s tank) = bytes (lookUp (text s) tank)
 
 -- A row: the question, and the answer that the papers state or that follows from them.
@@ -209,3 +212,48 @@ otherDays =
 pub other-days-as-stated : AsStated otherDays
 unfolding listings tankLines lookUp
 other-days-as-stated = refl
+
+-- Causes (request 105) ------------------------------------------------------------------
+
+-- The first sheet: four feedings are forced into the slots 1 to 3, so that blower 2 can't be idle to slot 3; slot 4 is
+-- in one window alone, so that it can't be busy there; blower 1 is busy from slot 1. A slot in which two rations must
+-- be fed: a low of 2 is above the high 0 of an idle blower 1. A slot in one window alone, and yet another slot with it:
+-- if the ration of slots 2 and 3 is fed in slot 3, two feedings in slot 2 can't be. A day without rations; one that is
+-- held.
+abbrev pub causeDays : List Day
+causeDays =
+    day (causesFor listed)
+    (bytes
+    (text
+    ("    2    2    1    3"
+    ∷ "    1    0    0    0"
+    ∷ "    2    0    0    0"
+    ∷ "    3    0    0    0"
+    ∷ "    2    3    2    1"
+    ∷ "    4    0    0    0"
+    ∷ "    1    0    1    1"
+    ∷ "    1    0    0    0" ∷ [])))
+    ∷ day (causesFor ("    1    2    1    2" ∷ "    1    1    1    1" ∷ "    2    1    1    1" ∷ []))
+    (bytes (text ("    2    0    1    1" ∷ "    1    0    0    0" ∷ "    1    0    3    1" ∷ "    1    0    0    0" ∷ [])))
+    ∷ day
+    (causesFor
+    ("    3    2    0    4" ∷ "    1    1    1    1" ∷ "    2    1    1    1" ∷ "    3    2    3    1" ∷ "    4    2    2    1" ∷ []))
+    (bytes
+    (text
+    ("    2    0    1    1"
+    ∷ "    1    0    0    0"
+    ∷ "    2    2    2    2"
+    ∷ "    2    0    0    0"
+    ∷ "    3    0    0    0"
+    ∷ "    1    0    3    1"
+    ∷ "    1    0    0    0"
+    ∷ "    1    2    2    2"
+    ∷ "    2    0    0    0"
+    ∷ "    3    0    0    0" ∷ [])))
+    ∷ day (causesFor idleLong) (bytes [])
+    ∷ day (causesFor held) (bytes (text ("HELD" ∷ "   12    1    2    1" ∷ "    2    0    0    0" ∷ [])))
+    ∷ []
+
+pub cause-days-as-stated : AsStated causeDays
+unfolding causes
+cause-days-as-stated = refl

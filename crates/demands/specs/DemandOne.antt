@@ -1,6 +1,6 @@
 -- Demand 1: no input breaks a call. Whatever bytes, lists and buffers are lent, the call returns and takes no undefined
--- step; it gives the number and the line of its first fault, as section 12 of docs/specification.md lists them, and each
--- lent byte is then what section 13 says.
+-- step; it gives the number and the line of its first fault, as section 12 of docs/specification.md lists them, and
+-- each lent byte is then what section 13 says.
 --
 -- That a call comes to its end, and takes no undefined step on the way, is not a statement about its answer: it is what
 -- the prover shows of every function before it accepts a crate, and no call for outsiders asks anything of its caller.
@@ -39,13 +39,16 @@ use Rattle.plan_lines.specs.Text.{heldText, refusalText}
 use Rattle.planning.specs.Problem.{alone, canBePlanned, shownSet, heldListing, listingOf, gridFor}
 use Rattle.planning.specs.Planning.{heldFaults, planChecks, planRefusal, shortPlan, shortGrid, listedAnswer, unlistedAnswer, listingAfter, gridAfter, compareRefusal, sameDay, comparedOf, planRefusalFor}
 use Rattle.planning.specs.AloneLaws.{held-alone}
+use Rattle.causes.specs.CauseCalls.{endingsOf, shortCauses, causesAnswer, causesAfter}
+use Rattle.program.specs.Program.{explanationOf}
 use Rattle.program.specs.Theorems.{program-front}
 use Rattle.program.specs.Theorems as Program
 use Rattle.records.specs.declared.Ration.{Ration}
 use Rattle.records.specs.Records.{recordSheet, recordFaults}
-use Rattle.demands.specs.Answers.{FirstOf, NotZero, ShortfallOf, YesFor, NoLineOf, PlanBuffer, PlacingBuffer, SheetBuffer, programText, ProgramText}
+use Rattle.demands.specs.Answers.{FirstOf, NotZero, ShortfallOf, YesFor, NoLineOf, PlanBuffer, PlacingBuffer, CausesListed, CausesBuffer, SheetBuffer, programText, whyText, ProgramText}
 use Rattle.demands.specs.Outcome.{AloneIs}
 use Rattle.demands.specs.AnswerLaws.{alone-is, first-of, numbered-one, numbered-compared, first-alone, buffer-alone, placing-alone, both-alone, first-asked, zero-unless, no-unless, shortfall-is, yes-for, sheet-buffer, room-sheet, write-room, read-first, read-nothing, records-checked, program-text}
+use Rattle.demands.specs.CausesLaws.{causes-listed, causes-buffer, causes-room, why-front, why-causes, why-refused}
 
 pub record DemandOne : Type 0 where
   -- Sheets: the checks 1 to 9 and 13 of bytes, 3 to 9 and 13 of values, 10 where a sheet is written --------
@@ -95,6 +98,11 @@ pub record DemandOne : Type 0 where
   pub compare : (a b : List ℕ) → let r = comparedOf a b in
       FirstOf (comparisonChecks (faults a) (not (canBePlanned (alone (sheetOf a)))) (faults b) (not (canBePlanned (alone (sheetOf b))))) (r .number) (r .line)
       × (NotZero (r .number) → r .same ≡ false)
+  -- Causes: the checks of a planning call, with 10 for a buffer under 65,536 bytes; on 12 the buffer is as it was
+  pub causes : (b out : List ℕ) → let p = alone (sheetOf b) in let short = shortCauses out in
+      let r = planRefusal b short in let a = causesAnswer r (endingsOf p) in
+      FirstOf (planChecks (faults b) short p) (a .number) (a .line)
+      × CausesBuffer p (a .number) (a .length) (a .cut) out (causesAfter r (endingsOf p) out)
   -- Rations lent as records: the sheet that they make, with the checks 3 to 9 and 13 --------------
 
   pub write-rations : (slots blowers wake : ℕ) (rations : List Ration) (out : List ℕ) → let s = recordSheet slots blowers wake rations in
@@ -123,6 +131,11 @@ pub record DemandOne : Type 0 where
       FirstOf (planChecks (faults b) false p) (r .number) (r .line) × ProgramText p (r .number) (r .line) (programText b)
   -- what lies beyond one byte more than the longest sheet has no part in it: so much is read
   pub program-too-long : (b : List ℕ) → maxBytes < length b → programText b ≡ refusalText badLength 0
+  -- the program `why`: the causes' listing where its input is planned, and on every refusal, 12 too, what the planner
+  -- writes
+  pub why : (b : List ℕ) → let n = planRefusal b false .number in let p = alone (sheetOf b) in
+      (n ≡ 0 → CausesListed p (explanationOf b .cut) (whyText b))
+      × (NotZero n → (whyText b ≡ programText b) × (explanationOf b .cut ≡ false))
   -- A sheet planned alone -------------------------------------------------------------------------
 
   -- its rations, and m blowers in every slot; any sound placing may be taken
@@ -133,7 +146,7 @@ pub record DemandOne : Type 0 where
 -- The theorem -------------------------------------------------------------------------------------
 
 pub demand-one : DemandOne
-unfolding planRefusal listedAnswer unlistedAnswer writeRefusal writeRefusalFor writtenOf shortfallOf marksRefusal boundsOf boundsRefusal shortfallFor boundsFor comparedOf compareRefusal refused
+unfolding planRefusal listedAnswer unlistedAnswer causesAnswer writeRefusal writeRefusalFor writtenOf shortfallOf marksRefusal boundsOf boundsRefusal shortfallFor boundsFor comparedOf compareRefusal refused
 demand-one =
     record {
       read = λ b. (
@@ -168,6 +181,10 @@ demand-one =
           let w = both-alone (bytes-checked b) listing placing in
           (first-alone (bytes-checked b) (shortPlan listing || shortGrid placing), w .0, w .1);
       plan-number = λ b. (first-alone (bytes-checked b) false, refl);
+      causes = λ b out. (
+        first-alone (bytes-checked b) (shortCauses out),
+        causes-buffer (alone (sheetOf b)) _ out (causes-room (bytes-checked b) (alone (sheetOf b)) out),
+      );
       compare = λ a b.
           let p = alone (sheetOf a) in
           let q = alone (sheetOf b) in
@@ -195,6 +212,10 @@ demand-one =
           (first-alone c (shortPlan listing || shortGrid placing), w .0, w .1);
       program = λ b. (first-alone (bytes-checked b) false, rw (program-front b) (program-text b));
       program-too-long = λ b l. program-front b ∙ Program.program-too-long b l;
+      why = λ b. (
+        λ z. let c = why-causes b z in causes-listed (alone (sheetOf b)) _ (c .1) (whyText b) (why-front b ∙ c .0),
+        λ n. let c = why-refused b n in (why-front b ∙ c .0 ∙ sym (program-front b), c .1),
+      );
       alone-is = alone-is;
       held-is = held-alone;
     }

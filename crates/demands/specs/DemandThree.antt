@@ -1,9 +1,9 @@
--- Demand 3: number 12 means that no plan exists, and no stretch stops early. Of a well-formed sheet, with buffers that are
--- long enough, planning gives 12 if and only if the sheet has no sound placing; the listing then shows slots into which
--- more is forced than the blowers can feed in them, with both numbers. No set of slots has a greater shortfall than the
--- set shown, and it is contained in each that has as great a one. A plan's feedings are a sound placing that keeps every
--- stretch of the plan; and for a stretch that ends before slot D, no sound placing keeps those settled earlier and carries
--- it a slot further.
+-- Demand 3: number 12 means that no plan exists, and no stretch stops early. Of a well-formed sheet, with buffers that
+-- are long enough, planning gives 12 if and only if the sheet has no sound placing; the listing then shows slots into
+-- which more is forced than the blowers can feed in them, with both numbers. No set of slots has a greater shortfall
+-- than the set shown, and it is contained in each that has as great a one. A plan's feedings are a sound placing that
+-- keeps every stretch of the plan; and for a stretch that ends before slot D, no sound placing keeps those settled
+-- earlier and carries it a slot further.
 --
 -- The theorem `demand-three` says it of each call that plans, over what the call wrote. A field is named by its call;
 -- Outcome.antt says what is asked of a number and a listing, and explains the demand's words. A sheet is well-formed
@@ -13,23 +13,30 @@ use mathlib.Core.Logic.{_⊎_, _↔_}
 use mathlib.Core.Bool.{false, _||_}
 use mathlib.Core.List.{List, []}
 use Prim.Native.Nat.{ℕ, _*_, _≤_}
+use native.Mathlib.Omega.{arith}
 use lib.ListN.{length}
 use Rattle.checks.specs.Refusals.{noPlacing}
 use Rattle.checks.specs.Sheet.{Sheet, sheetOf}
 use Rattle.checks.specs.Checks.{faults}
-use Rattle.plan_lines.specs.Sizes.{planBytes, gridBytes}
+use Rattle.plan_lines.specs.Sizes.{planBytes, gridBytes, causesBytes}
 use Rattle.planning.specs.Problem.{alone, MayPlace, listingOf, gridFor}
 use Rattle.planning.specs.Planning.{planRefusalFor, planRefusal, shortPlan, shortGrid, listedAnswer, unlistedAnswer, listingAfter, gridAfter, comparedOf}
-use Rattle.planning.specs.ReadListing.{written, linesOf, headLine}
+use Rattle.planning.specs.ReadListing.{written, linesOf, headLine, stretchPart}
 use Rattle.planning.specs.CallAnswers.{room-plan, room-grid, neither}
+use Rattle.causes.specs.CauseCalls.{endingsOf, shortCauses, causesAnswer, causesAfter}
+use Rattle.causes.specs.ReadCauses.{entriesIn, writtenCauses}
+use Rattle.causes.specs.CauseAnswers.{room-causes}
+use Rattle.program.specs.Program.{explanationOf}
 use Rattle.program.specs.Theorems.{program-writes, program-front}
 use Rattle.records.specs.declared.Ration.{Ration}
 use Rattle.records.specs.Records.{recordSheet, recordFaults}
-use Rattle.demands.specs.Answers.{programText}
+use Rattle.demands.specs.Answers.{programText, whyText}
 use Rattle.demands.specs.Outcome.{AloneIs, NoneSound, PlannedOrHeld, Outcome, placingIn, SamePlacing}
+use Rattle.demands.specs.Causes.{CausesShown}
 use Rattle.demands.specs.AnswerLaws.{bytes-in-range, records-in-range, alone-is}
 use Rattle.demands.specs.OutcomeLaws.{written-listing, outcome-of, marks-of, high-alone}
 use Rattle.demands.specs.ComparisonLaws.{comparison-held-iff}
+use Rattle.demands.specs.CausesLaws.{shown-causes, planned, call-shown, why-front, why-causes, why-refused}
 
 pub record DemandThree : Type 0 where
   -- A sheet's bytes -------------------------------------------------------------------------------
@@ -50,6 +57,14 @@ pub record DemandThree : Type 0 where
       × (a .number ≡ 0 → (listing : List ℕ) → planBytes ≤ length listing → let q = planRefusal b (shortPlan listing) in
       SamePlacing s (written (listedAnswer q (listingOf p)) (listingAfter q (listingOf p) listing)) (gridAfter r (gridFor p) placing))
   pub plan-number : (b : List ℕ) → faults b ≡ [] → PlannedOrHeld (alone (sheetOf b)) (unlistedAnswer (planRefusal b false) .number)
+  -- the causes' call is held where planning is; it lists the stretches on the lines of the plan that `plan` gives for
+  -- the same sheet, those that end before slot D, in settling order, and each cause is the true one
+  pub causes : (b out : List ℕ) → let p = alone (sheetOf b) in faults b ≡ [] → causesBytes ≤ length out →
+      let r = planRefusal b (shortCauses out) in let a = causesAnswer r (endingsOf p) in
+      PlannedOrHeld p (a .number)
+      × (a .number ≡ 0 → (listing : List ℕ) → planBytes ≤ length listing → let q = planRefusal b (shortPlan listing) in
+      CausesShown p (stretchPart (linesOf (written (listedAnswer q (listingOf p)) (listingAfter q (listingOf p) listing)))) (a .cut)
+      (entriesIn (writtenCauses a (causesAfter r (endingsOf p) out))))
   -- a comparison is held exactly where its first sheet is well-formed and has no sound placing, or the first can be
   -- planned and that holds of the second
   pub compare : (a b : List ℕ) → let p = alone (sheetOf a) in let q = alone (sheetOf b) in
@@ -68,6 +83,10 @@ pub record DemandThree : Type 0 where
 
   -- its whole output is the listing
   pub program : (b : List ℕ) → faults b ≡ [] → Outcome (alone (sheetOf b)) (planRefusal b false .number) (programText b)
+  -- that of `why` has the causes of the stretches that the planner lists; of a held sheet it is what the planner writes
+  pub why : (b : List ℕ) → let p = alone (sheetOf b) in faults b ≡ [] →
+      (planRefusal b false .number ≡ 0 → CausesShown p (stretchPart (linesOf (programText b))) (explanationOf b .cut) (entriesIn (whyText b)))
+      × (planRefusal b false .number ≡ noPlacing → Outcome p (planRefusal b false .number) (whyText b))
   -- A sheet planned alone -------------------------------------------------------------------------
 
   -- its rations, and m blowers in every slot; any sound placing may be taken
@@ -79,7 +98,7 @@ pub record DemandThree : Type 0 where
 -- The theorem -------------------------------------------------------------------------------------
 
 pub demand-three : DemandThree
-unfolding planRefusal listedAnswer unlistedAnswer
+unfolding planRefusal listedAnswer unlistedAnswer causesAnswer
 demand-three =
     record {
       plan = λ b listing formed l.
@@ -103,6 +122,13 @@ demand-three =
                 marks-of formed p g (shortGrid placing) e _ placing (written-listing formed p g (shortPlan listing) (room-plan listing l) listing) n,
           );
       plan-number = λ b formed. outcome-of formed _ (bytes-in-range b formed) false refl _ refl .planned-or-held;
+      causes = λ b out formed l.
+          let p = alone (sheetOf b) in
+          let g = bytes-in-range b formed in
+          let e = room-causes out l in (
+            outcome-of formed p g (shortCauses out) e _ refl .planned-or-held,
+            λ z listing k. call-shown formed p g refl (shortCauses out) e z out _ (written-listing formed p g (shortPlan listing) (room-plan listing k) listing),
+          );
       compare = comparison-held-iff;
       plan-rations = λ slots blowers wake rations listing formed l.
           let g = records-in-range (recordSheet slots blowers wake rations) formed in
@@ -117,6 +143,18 @@ demand-three =
       program = λ b formed.
           let g = bytes-in-range b formed in
           outcome-of formed _ g false refl (programText b) (program-front b ∙ program-writes b formed [] ∙ written-listing formed _ g false refl []);
+      why = λ b formed.
+          let p = alone (sheetOf b) in
+          let g = bytes-in-range b formed in
+          let w = program-front b ∙ program-writes b formed [] ∙ written-listing formed _ g false refl [] in (
+            λ z.
+                let c = why-causes b z in
+                subst (λ x. CausesShown p (stretchPart (linesOf (programText b))) x (entriesIn (whyText b))) (sym (c .1))
+                (shown-causes p g refl (planned formed p g refl false refl z) (programText b) (whyText b) w (why-front b ∙ c .0)),
+            λ n.
+                let c = why-refused b (λ z. omega (arith, n, z)) in
+                outcome-of formed _ g false refl (whyText b) (why-front b ∙ c .0 ∙ sym (program-front b) ∙ w),
+          );
       alone-is = alone-is;
       high-is = high-alone;
     }

@@ -1,7 +1,7 @@
 -- Demand 2: a plan is the method's. For a well-formed sheet that has a sound placing, and buffers that are long enough,
--- the counts of the slots, the feedings, the stretches and the energy are those of Parallel Left-to-Right, sections 5 to 7
--- of docs/specification.md. A sheet that is written and read loses no value, and an accepted sheet that is read and
--- written loses no byte.
+-- the counts of the slots, the feedings, the stretches and the energy are those of Parallel Left-to-Right, sections 5
+-- to 7 of docs/specification.md. A sheet that is written and read loses no value, and an accepted sheet that is read
+-- and written loses no byte.
 --
 -- The theorem `demand-two` says it of each call that plans, over the lines of the listing that it wrote or the placing
 -- that it marked, and of reading and writing. A field is named by its call; ByMethod.antt says what is asked of a plan.
@@ -21,19 +21,26 @@ use Rattle.common.specs.Buffers.{over}
 use Rattle.schedules.specs.Demands.{demandsOf}
 use Rattle.method.specs.Method.{dayBounds}
 use Rattle.method.specs.Worded.{settleAllWorded, runsWorded, boundsWorded}
-use Rattle.plan_lines.specs.Sizes.{planBytes, gridBytes}
+use Rattle.plan_lines.specs.Sizes.{planBytes, gridBytes, causesBytes}
 use Rattle.planning.specs.Problem.{alone, listingOf, gridFor}
 use Rattle.planning.specs.Planning.{planRefusalFor, planRefusal, shortPlan, shortGrid, listedAnswer, unlistedAnswer, listingAfter, gridAfter, comparedOf}
 use Rattle.planning.specs.ReadListing.{written, linesOf}
 use Rattle.planning.specs.CallAnswers.{room-plan, room-grid, neither}
+use Rattle.planning.specs.ProblemLaws.{may-planned}
+use Rattle.causes.specs.CauseCalls.{endingsOf, shortCauses, causesAnswer, causesAfter}
+use Rattle.causes.specs.ReadCauses.{entriesIn, writtenCauses}
+use Rattle.causes.specs.CauseAnswers.{room-causes}
+use Rattle.program.specs.Program.{explanationOf}
 use Rattle.program.specs.Theorems.{program-writes, program-front}
 use Rattle.records.specs.declared.Ration.{Ration}
 use Rattle.records.specs.Records.{recordSheet, recordFaults}
-use Rattle.demands.specs.Answers.{programText}
+use Rattle.demands.specs.Answers.{programText, whyText}
 use Rattle.demands.specs.Outcome.{AloneIs, placingIn}
 use Rattle.demands.specs.ByMethod.{HasPlacing, settled, runsOf, ChosenByMethod, ByMethod}
+use Rattle.demands.specs.Causes.{CausesByMethod}
 use Rattle.demands.specs.AnswerLaws.{bytes-in-range, records-in-range, alone-is}
 use Rattle.demands.specs.ByMethodLaws.{number-is, listed-by-method, marked-by-method, both-planned, same-day, as-worded, runs-worded}
+use Rattle.demands.specs.CausesLaws.{by-method-causes, call-by-method, why-front, why-causes}
 use Rattle.demands.specs.RoundTripLaws.{read-again, rations-read-again, values-again, rations-again}
 
 pub record DemandTwo : Type 0 where
@@ -54,6 +61,10 @@ pub record DemandTwo : Type 0 where
   pub compare : (a b : List ℕ) → let p = alone (sheetOf a) in let q = alone (sheetOf b) in
       faults a ≡ [] → HasPlacing p → faults b ≡ [] → HasPlacing q →
       (comparedOf a b .number ≡ 0) × ((comparedOf a b .same ≡ true) ↔ ((p .sheet .slots ≡ q .sheet .slots) × (settled p .low ≡ settled q .low)))
+  -- the causes listed are those of the stretches that the method ends, in its order, under the bounds that it has then
+  pub causes : (b out : List ℕ) → let p = alone (sheetOf b) in faults b ≡ [] → HasPlacing p → causesBytes ≤ length out →
+      let r = planRefusal b (shortCauses out) in let a = causesAnswer r (endingsOf p) in
+      (a .number ≡ 0) × CausesByMethod p (a .cut) (entriesIn (writtenCauses a (causesAfter r (endingsOf p) out)))
   -- Planning rations lent as records --------------------------------------------------------------
 
   pub plan-rations : (slots blowers wake : ℕ) (rations : List Ration) (listing : List ℕ) → let s = recordSheet slots blowers wake rations in let p = alone s in
@@ -66,6 +77,7 @@ pub record DemandTwo : Type 0 where
   -- The program: what it writes -------------------------------------------------------------------
 
   pub program : (b : List ℕ) → let p = alone (sheetOf b) in faults b ≡ [] → HasPlacing p → ByMethod p (linesOf (programText b))
+  pub why : (b : List ℕ) → let p = alone (sheetOf b) in faults b ≡ [] → HasPlacing p → CausesByMethod p (explanationOf b .cut) (entriesIn (whyText b))
   -- A sheet planned alone: the method as document 01 words it -----------------------------------------
 
   -- its rations, and m blowers in every slot; any sound placing will do
@@ -98,7 +110,7 @@ pub record DemandTwo : Type 0 where
 -- The theorem -------------------------------------------------------------------------------------
 
 pub demand-two : DemandTwo
-unfolding planRefusal listedAnswer unlistedAnswer comparedOf
+unfolding planRefusal listedAnswer unlistedAnswer causesAnswer comparedOf
 demand-two =
     record {
       plan = λ b listing formed has l.
@@ -118,6 +130,11 @@ demand-two =
       compare = λ a b f p g q.
           let z = both-planned a b f p g q in
           (ap (λ r. r .number) z, rw z (same-day a b f p g q));
+      causes = λ b out formed has l.
+          let g = bytes-in-range b formed in
+          let e = room-causes out l in
+          let z = number-is formed _ g has (shortCauses out) e in
+          (z, call-by-method formed _ g refl (shortCauses out) e z out);
       plan-rations = λ slots blowers wake rations listing formed has l.
           let g = records-in-range (recordSheet slots blowers wake rations) formed in
           let e = room-plan listing l in
@@ -130,6 +147,11 @@ demand-two =
       program = λ b formed has.
           subst (λ x. ByMethod (alone (sheetOf b)) (linesOf x)) (sym (program-front b ∙ program-writes b formed []))
           (listed-by-method formed _ (bytes-in-range b formed) has false refl []);
+      why = λ b formed has.
+          let g = bytes-in-range b formed in
+          let c = why-causes b (number-is formed _ g has false refl) in
+          subst (λ x. CausesByMethod (alone (sheetOf b)) x (entriesIn (whyText b))) (sym (c .1))
+          (by-method-causes _ g refl (may-planned _ g (has .0) (has .1)) (whyText b) (why-front b ∙ c .0));
       alone-is = alone-is;
       worded = λ s. (as-worded s, runs-worded s);
       read-write = read-again;

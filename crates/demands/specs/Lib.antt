@@ -10,6 +10,7 @@ pub mod Days
 pub mod Answers
 pub mod Outcome
 pub mod ByMethod
+pub mod Causes
 -- Laws
 pub mod GridLaws
 pub mod AnswerLaws
@@ -17,3 +18,4 @@ pub mod OutcomeLaws
 pub mod ByMethodLaws
 pub mod RoundTripLaws
 pub mod ComparisonLaws
+pub mod CausesLaws

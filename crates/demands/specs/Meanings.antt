@@ -14,8 +14,13 @@ use Rattle.plan_lines.specs.Text.{writeLines, planText, heldText, refusalText}
 use Rattle.planning.specs.Planning.{planRefusal, writes}
 use Rattle.schedules.specs.Rest.{restDemands, restHigh, together, noFeedings}
 use Rattle.planning.specs.Problem.{left, room, canBePlanned, settledCounts, feedingsOf, countsOf, shownSet, planWith, listingOf}
-use Rattle.planning.specs.ReadListing.{lineIn, linesOf, headLine, stretchPart, feedPart, billOn}
-use Rattle.program.specs.Program.{output}
+use Rattle.planning.specs.ReadListing.{lineIn, linesIn, linesOf, headLine, stretchPart, feedPart, billOn}
+use Rattle.schedules.specs.Causes.{excessSet, someAbove, crossed, lowest, obstacle}
+use Rattle.method.specs.Keeping.{stretches}
+use Rattle.method.specs.Endings.{inOrder, endings}
+use Rattle.cause_lines.specs.Entries.{entryLines, entryText, entriesText, fitting, causesText, isCut}
+use Rattle.causes.specs.CauseCalls.{endingsOf}
+use Rattle.program.specs.Program.{output, explanation}
 
 -- the method, feedings, stretches, energy and the charge
 unfoldable pub plans : Unit {0}
@@ -24,5 +29,10 @@ plans = tt
 
 -- from text to text, and back to lines
 unfoldable pub listings : Unit {0}
-unfolding answers plans leading columns writeField writeLine padded stretchLine blowerLines stretchLines partAt fedIn feedLine slotLines feedLines billLine planLines membersFrom memberLines heldLines writeLines planText heldText refusalText restDemands restHigh together noFeedings left room canBePlanned settledCounts feedingsOf countsOf planWith shownSet listingOf planRefusal writes output lineIn linesOf headLine stretchPart feedPart billOn
+unfolding answers plans leading columns writeField writeLine padded stretchLine blowerLines stretchLines partAt fedIn feedLine slotLines feedLines billLine planLines membersFrom memberLines heldLines writeLines planText heldText refusalText restDemands restHigh together noFeedings left room canBePlanned settledCounts feedingsOf countsOf planWith shownSet listingOf planRefusal writes output lineIn linesIn linesOf headLine stretchPart feedPart billOn
 listings = tt
+
+-- and to the causes' listing
+unfoldable pub causes : Unit {0}
+unfolding listings excessSet someAbove crossed lowest obstacle stretches inOrder endings entryLines entryText entriesText fitting causesText isCut endingsOf explanation
+causes = tt
