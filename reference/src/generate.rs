@@ -258,6 +258,57 @@ pub fn any_sheet(draws: &mut Draws, limits: Sizes) -> Sheet {
     }
 }
 
+/// A sheet with a plan whose blowers stop and start often: most windows are a few slots
+/// long, the others longer, up to the whole day.
+pub fn jagged_sheet(draws: &mut Draws, limits: Sizes) -> Sheet {
+    loop {
+        let sizes = some_sizes(draws, limits, 1);
+        let mut sheet = jagged_sheet_of(draws, sizes);
+        some_meals(draws, &mut sheet);
+        if shown_set(&sheet).is_none() {
+            return sheet;
+        }
+    }
+}
+
+/// Such a sheet of the most slots, blowers and rations.
+pub fn jagged_full_sheet(draws: &mut Draws) -> Sheet {
+    loop {
+        let sheet = jagged_sheet_of(draws, FULL);
+        if shown_set(&sheet).is_none() {
+            return sheet;
+        }
+    }
+}
+
+fn jagged_sheet_of(draws: &mut Draws, sizes: Sizes) -> Sheet {
+    let slots = sizes.slots;
+    let longest = draws.between(1, 4).min(slots);
+    let most_long = draws.between(2, 8);
+    let rations = rising_tanks(draws, sizes.rations as usize)
+        .into_iter()
+        .map(|tank| {
+            let length = match draws.below(most_long) {
+                0 => draws.between(longest, slots),
+                _ => draws.between(1, longest),
+            };
+            let first = draws.between(1, slots - length + 1);
+            Ration {
+                tank,
+                first,
+                last: first + length - 1,
+                volume: draws.between(1, length),
+            }
+        })
+        .collect();
+    Sheet {
+        slots,
+        blowers: sizes.blowers,
+        wake: sizes.wake,
+        rations,
+    }
+}
+
 /// A sheet of the most slots and blowers and of the most rations or nearly so:
 /// tight, crowded or random, or with whole-day windows.
 pub fn full_sheet(draws: &mut Draws) -> Sheet {

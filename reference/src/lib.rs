@@ -3,6 +3,7 @@
 
 pub mod bill;
 pub mod cases;
+pub mod causes;
 pub mod damage;
 pub mod draws;
 pub mod flow;
@@ -10,5 +11,6 @@ pub mod generate;
 pub mod listing;
 pub mod method;
 pub mod placing;
+pub mod sets;
 pub mod sheet;
 pub mod through;

@@ -1,20 +1,23 @@
 //! The command line of the reference implementation; see README.md.
 
 use reference::cases::{self, Case};
+use reference::causes;
 use reference::damage;
 use reference::draws::Draws;
 use reference::generate::{self, FULL};
 use reference::listing;
-use reference::through::through;
+use reference::through::{through, Expected};
 use std::io::{self, Read, Write};
 use std::process::ExitCode;
 
 const USAGE: &str = "usage: reference plan < sheet > listing
+       reference why < sheet > listing
        reference sheet KIND SEED > sheet
        reference cases STREAM-in | STREAM-out
-       reference through PROGRAM
-KIND is random, whole-day, tight, crowded, held or damaged; SEED is a number of 32 bits.
-STREAM is sheet, placing, plan or days.";
+       reference through PLANNER [WHY]
+KIND is random, whole-day, tight, crowded, jagged, held or damaged; SEED is a number of
+32 bits.
+STREAM is sheet, placing, plan, days or causes.";
 
 fn main() -> ExitCode {
     let arguments: Vec<String> = std::env::args().skip(1).collect();
@@ -36,19 +39,28 @@ fn main() -> ExitCode {
 fn answer(words: &[&str]) -> Option<io::Result<Vec<u8>>> {
     match *words {
         ["plan"] => Some(read_input().map(|bytes| listing::program(&bytes))),
+        ["why"] => Some(read_input().map(|bytes| causes::why(&bytes))),
         ["sheet", kind, seed] => generated(kind, seed.parse().ok()?).map(Ok),
         ["cases", file] => case_file(file).map(Ok),
-        ["through", path] => Some(tried(path)),
+        ["through", planner] => Some(tried(planner, listing::program)),
+        ["through", planner, why] => Some(tried_both(planner, why)),
         _ => None,
     }
 }
 
 /// How many inputs a program answered as expected; an error at the first that it did not.
-fn tried(path: &str) -> io::Result<Vec<u8>> {
-    match through(path)? {
+fn tried(path: &str, expected: Expected) -> io::Result<Vec<u8>> {
+    match through(path, expected)? {
         Ok(count) => Ok(format!("{count} inputs, each answered as expected\n").into_bytes()),
         Err(input) => Err(io::Error::other(format!("another output for\n{input}"))),
     }
+}
+
+/// The same of both programs, one after the other.
+fn tried_both(planner: &str, why: &str) -> io::Result<Vec<u8>> {
+    let planner = tried(planner, listing::program)?;
+    let why = tried(why, causes::why)?;
+    Ok([planner, why].concat())
 }
 
 /// Makes the output expected for cases.
@@ -62,6 +74,7 @@ fn case_file(file: &str) -> Option<Vec<u8>> {
         "placing" => (cases::placing::cases(), cases::placing::output),
         "plan" => (cases::plan::cases(), cases::plan::output),
         "days" => (cases::days::cases(), cases::days::output),
+        "causes" => (cases::causes::cases(), cases::causes::output),
         _ => return None,
     };
     match side {
@@ -79,6 +92,7 @@ fn generated(kind: &str, seed: u32) -> Option<Vec<u8>> {
         "whole-day" => generate::whole_day_sheet(draws, FULL),
         "tight" => generate::tight_sheet(draws, FULL),
         "crowded" => generate::crowded_sheet(draws, FULL),
+        "jagged" => generate::jagged_sheet(draws, FULL),
         "held" => generate::held_sheet(draws, FULL),
         "damaged" => return Some(damage::damaged_sheet(draws, FULL)),
         _ => return None,

@@ -1,7 +1,6 @@
-//! The planner's program, run on sheets as a process and held to the output expected.
+//! A program of the planner, run on sheets as a process and held to the output expected.
 
-use crate::cases::days::program_sheets;
-use crate::listing::program;
+use crate::cases::{causes, days};
 use std::io::{self, Write};
 use std::process::{Command, Stdio};
 use std::thread;
@@ -15,24 +14,28 @@ enum Pieces {
     Of(usize),
 }
 
+/// What a program must write for an input.
+pub type Expected = fn(&[u8]) -> Vec<u8>;
+
 /// Runs a program on every sheet, and gives how many there were or the first whose output
 /// is not as expected.
-pub fn through(path: &str) -> io::Result<Result<usize, String>> {
+pub fn through(path: &str, expected: Expected) -> io::Result<Result<usize, String>> {
+    let sheets = [days::program_sheets(), causes::program_sheets()].concat();
     let mut inputs: Vec<(Vec<u8>, Pieces)> = Vec::new();
-    for sheet in program_sheets() {
-        inputs.push((sheet, Pieces::Whole));
+    for sheet in &sheets {
+        inputs.push((sheet.clone(), Pieces::Whole));
     }
     // Longer than the program reads at a time, in no form at all.
     for length in [65_536, 65_537, 200_000] {
         inputs.push((vec![b' '; length], Pieces::Whole));
     }
-    for sheet in program_sheets().into_iter().take(12) {
+    for sheet in sheets.into_iter().take(12) {
         inputs.push((sheet.clone(), Pieces::Of(1)));
         inputs.push((sheet, Pieces::Of(30)));
     }
     for (input, pieces) in &inputs {
         let output = run(path, input, *pieces)?;
-        if output != program(input) {
+        if output != expected(input) {
             return Ok(Err(String::from_utf8_lossy(input).into_owned()));
         }
     }

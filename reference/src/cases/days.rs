@@ -6,43 +6,37 @@
 
 use super::bill::{dear_days, hour_days, rounding_days, start_days};
 use super::meals::{full_meal_days, meal_days};
+use super::shares::Share;
 use super::sheets::{
     beyond_days, document_days, full_day, limit_days, refused_by, settled_days, text,
     too_long_sheet, SHEET_CHECKS,
 };
 use super::{digest, lent_buffer, Case};
-use crate::damage::damaged_sheet;
 use crate::draws::Draws;
-use crate::generate::{
-    any_sheet, full_sheet, held_full_sheet, tight_sheet, Sizes, FULL, MIDDLE, SMALL,
-};
+use crate::generate::{full_sheet, held_full_sheet, FULL, MIDDLE, SMALL};
 use crate::listing::{plan, program, PLACING_BUFFER, PLAN_BUFFER};
 
-/// How many sheets of each kind there are within the limits.
-struct Share {
-    limits: Sizes,
-    any: u32,
-    tight: u32,
-    damaged: u32,
-}
-
+/// How many generated sheets there are.
 const SHARES: [Share; 3] = [
     Share {
         limits: SMALL,
         any: 1_000,
         tight: 150,
+        jagged: 0,
         damaged: 60,
     },
     Share {
         limits: MIDDLE,
         any: 500,
         tight: 150,
+        jagged: 0,
         damaged: 30,
     },
     Share {
         limits: FULL,
         any: 300,
         tight: 100,
+        jagged: 0,
         damaged: 10,
     },
 ];
@@ -100,15 +94,7 @@ fn generated_cases() -> Vec<Case> {
     let mut draws = Draws::new(41);
     let mut sheets = Vec::new();
     for share in SHARES {
-        for _ in 0..share.any {
-            sheets.push(any_sheet(&mut draws, share.limits).text());
-        }
-        for _ in 0..share.tight {
-            sheets.push(tight_sheet(&mut draws, share.limits).text());
-        }
-        for _ in 0..share.damaged {
-            sheets.push(damaged_sheet(&mut draws, share.limits));
-        }
+        sheets.extend(share.sheets(&mut draws));
     }
     for _ in 0..FULL_SHEETS {
         sheets.push(full_sheet(&mut draws).text());

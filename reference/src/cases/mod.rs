@@ -2,10 +2,12 @@
 //! a program that answers them one after another.
 
 mod bill;
+pub mod causes;
 pub mod days;
 mod meals;
 pub mod placing;
 pub mod plan;
+mod shares;
 pub mod sheet;
 mod sheets;
 
