@@ -1,17 +1,18 @@
 /* Kiwimound: plans the feed day of a trout farm. The calls of the static libraries libkiwimound.a and librecords.a.
  *
- * Build the library with `rt staticlib kiwimound`; it is then target/staticlib/libkiwimound.a, for x86-64 Linux. Of other libraries it
- * needs memcpy and memset alone. It keeps no state between calls, takes no memory from the heap, and reads and writes nothing but what a call lends it. So any number
- * of threads may call it at once, as long as no two of them lend the same bytes for writing.
+ * Build the library with `rt staticlib kiwimound`; it is then target/staticlib/libkiwimound.a, for x86-64 Linux. Of
+ * other libraries it needs memcpy and memset alone. It keeps no state between calls, takes no memory from the heap,
+ * and reads and writes nothing but what a call lends it. So any number of threads may call it at once, as long as no
+ * two of them lend the same bytes for writing.
  *
- * Every call: a pointer and the length after it lend so many elements. The pointer must be valid for that many, also where the length is 0 (then any
- * pointer that is not null and is aligned will do), and bytes lent for writing must not overlap anything else lent to the same call. Beyond that nothing
- * is asked: whatever the bytes hold, the call returns and answers a number.
+ * Every call: a pointer and the length after it lend so many elements. The pointer must be valid for that many, also
+ * where the length is 0 (then any pointer that is not null and is aligned will do), and bytes lent for writing must
+ * not overlap anything else lent to the same call. Beyond that nothing is asked: whatever the bytes hold, the call
+ * returns and answers a number.
  *
- * Numbers: 0 is accepted. Any other is the refusal below, the first that applies in the order of the list, in which 7, 8, 9 and 13 go line by line; `line`
- * is the line of the sheet that it names, from 1; 0 where it names none. Every number but 0 and 12 changes no lent byte, and every further field of the
- * answer is then 0.
- */
+ * Numbers: 0 is accepted. Any other is the refusal below, the first that applies in the order of the list, in which
+ * 7, 8, 9 and 13 go line by line; `line` is the line of the sheet that it names, from 1; 0 where it names none.
+ * Every number but 0 and 12 changes no lent byte, and every further field of the answer is then 0. */
 #ifndef KIWIMOUND_H
 #define KIWIMOUND_H
 
@@ -23,12 +24,13 @@
 extern "C" {
 #endif
 
-/* Sizes and limits -------------------------------------------------------------------------------------------------------------------------- */
+/* Sizes and limits ------------------------------------------------------------------------------------------------- */
 
 #define KIWIMOUND_LINE_BYTES 21u         /* a line of a sheet or of a listing: four fields of five columns, and byte 10 */
 #define KIWIMOUND_MAX_SHEET_BYTES 65520u /* a longer sheet is refused by its length */
 #define KIWIMOUND_LISTING_BYTES 32303u   /* the least length of a plan buffer */
 #define KIWIMOUND_PLACING_BYTES 6144u    /* the least length of a placing buffer */
+#define KIWIMOUND_CAUSES_BYTES 65536u    /* the least length of a buffer for causes; no listing of causes is longer */
 #define KIWIMOUND_MAX_SLOTS 96u
 #define KIWIMOUND_MAX_BLOWERS 8u
 #define KIWIMOUND_MAX_WAKE 200u
@@ -38,7 +40,7 @@ extern "C" {
 /* The least length of a buffer that a sheet of n rations is written to. */
 #define KIWIMOUND_SHEET_BYTES(n) (KIWIMOUND_LINE_BYTES * ((size_t)(n) + 1u))
 
-/* Numbers ----------------------------------------------------------------------------------------------------------------------------------- */
+/* Numbers ---------------------------------------------------------------------------------------------------------- */
 
 enum {
     KIWIMOUND_ACCEPTED = 0,
@@ -57,7 +59,21 @@ enum {
     KIWIMOUND_HELD = 12          /* the blowers do not suffice: no sound placing exists; line 0 */
 };
 
-/* Answers ----------------------------------------------------------------------------------------------------------------------------------- */
+/* Causes of a stretch's end: what stands in the way of a plan that keeps all stretches settled before and has this one
+ * a slot longer. It is 3 where that applies, otherwise 1, otherwise 2. An idle stretch has 1 or 3, a busy one 2 or 3.
+ */
+enum {
+    /* more feedings are forced into the slots than the blowers may make there: the slots contained in every set of
+     * greatest shortfall */
+    KIWIMOUND_CAUSE_SHORTFALL = 1,
+    /* fewer feedings are possible in the slots than the blowers would have to make: the slots contained in every set of
+     * greatest excess */
+    KIWIMOUND_CAUSE_EXCESS = 2,
+    /* a slot's low is above its high, so that it would have to hold more feedings than it may: the lowest such slot */
+    KIWIMOUND_CAUSE_LOW_ABOVE_HIGH = 3
+};
+
+/* Answers ---------------------------------------------------------------------------------------------------------- */
 
 /* What a sheet says. On a refusal every field after `line` is 0. */
 typedef struct kiwimound_reading {
@@ -112,63 +128,91 @@ typedef struct kiwimound_bounds_answer {
     bool yes;
 } kiwimound_bounds_answer;
 
-/* Sheets ------------------------------------------------------------------------------------------------------------------------------------ */
+/* Of listing causes: the length of the listing written, and whether it was cut; 0 and false on a refusal. */
+typedef struct kiwimound_causes_answer {
+    uint32_t number;
+    uint32_t line;
+    size_t length;
+    bool cut;
+} kiwimound_causes_answer;
+
+/* Sheets ----------------------------------------------------------------------------------------------------------- */
 
 /* Reads a sheet: its numbers, or the first refusal of 1 to 9 and 13. Changes nothing. */
 kiwimound_reading kiwimound_read(const uint8_t *sheet, size_t sheet_length);
 
-/* Writes a sheet. `rations` is the fourth number of the head line; `numbers` lends four numbers for each ration: tank, first slot, last slot, volume.
- * Refusals 3 to 9 and 13, in which a list that is not 4 * rations long is 6 and `line` is the line that the ration would have had, then 10 for `out`
- * shorter than KIWIMOUND_SHEET_BYTES(rations). Number 0 writes the sheet at the front of `out`; bytes after it keep their values. */
+/* Writes a sheet. `rations` is the fourth number of the head line; `numbers` lends four numbers for each ration:
+ * tank, first slot, last slot, volume. Refusals 3 to 9 and 13, in which a list that is not 4 * rations long is 6 and
+ * `line` is the line that the ration would have had, then 10 for `out` shorter than KIWIMOUND_SHEET_BYTES(rations).
+ * Number 0 writes the sheet at the front of `out`; bytes after it keep their values. */
 kiwimound_written kiwimound_write(uint32_t slots, uint32_t blowers, uint32_t wake, uint32_t rations, const uint32_t *numbers, size_t numbers_length,
                                   uint8_t *out, size_t out_length);
 
-/* Where the lines of a tank are in the sheet, all of them as one part, closing bytes 10 included: the length is KIWIMOUND_LINE_BYTES for each. The part is
- * empty, start and length 0, where the sheet is refused by 1 to 9 or 13 or has no such tank. A sheet that planning holds is looked up all the same.
- * Changes nothing. */
+/* Where the lines of a tank are in the sheet, all of them as one part, closing bytes 10 included: the length is
+ * KIWIMOUND_LINE_BYTES for each. The part is empty, start and length 0, where the sheet is refused by 1 to 9 or 13
+ * or has no such tank. A sheet that planning holds is looked up all the same. Changes nothing. */
 kiwimound_part kiwimound_find(const uint8_t *sheet, size_t sheet_length, uint32_t tank);
 
-/* Placing ----------------------------------------------------------------------------------------------------------------------------------- */
+/* Placing ---------------------------------------------------------------------------------------------------------- */
 
-/* The shortfall of the slots that are marked 1: `marks` lends a 0 or a 1 for each slot. Refusals 1 to 9 and 13, then 11. Changes nothing. */
+/* The shortfall of the slots that are marked 1: `marks` lends a 0 or a 1 for each slot. Refusals 1 to 9 and 13, then
+ * 11. Changes nothing. */
 kiwimound_shortfall_answer kiwimound_shortfall(const uint8_t *sheet, size_t sheet_length, const uint8_t *marks, size_t marks_length);
 
-/* Whether a sound placing exists under a low and a high for each slot; a high above the blowers is read as the blowers, a low is taken as it is. A sheet
- * that fits nowhere answers no with number 0. Refusals 1 to 9 and 13, then 11. Changes nothing. */
+/* Whether a sound placing exists under a low and a high for each slot; a high above the blowers is read as the
+ * blowers, a low is taken as it is. A sheet that fits nowhere answers no with number 0. Refusals 1 to 9 and 13, then
+ * 11. Changes nothing. */
 kiwimound_bounds_answer kiwimound_bounds(const uint8_t *sheet, size_t sheet_length, const uint32_t *lows, size_t lows_length, const uint32_t *highs,
                                          size_t highs_length);
 
-/* Planning ---------------------------------------------------------------------------------------------------------------------------------- */
+/* Planning --------------------------------------------------------------------------------------------------------- */
 
-/* Plans a sheet into `listing`. Refusals 1 to 9 and 13, then 10 for a buffer under KIWIMOUND_LISTING_BYTES, then 12. Number 0 writes the listing of the
- * plan at its front, 12 that of the held sheet; `length` is its length, and bytes after it keep their values.
+/* Plans a sheet into `listing`. Refusals 1 to 9 and 13, then 10 for a buffer under KIWIMOUND_LISTING_BYTES, then 12.
+ * Number 0 writes the listing of the plan at its front, 12 that of the held sheet; `length` is its length, and bytes
+ * after it keep their values.
  *
- * The listing of a plan is `PLAN` and byte 10, then lines of KIWIMOUND_LINE_BYTES: energy, starts, stretch lines, feed lines; so many stretch lines, with
- * blower, first slot, last slot, state (0 off, 1 idle and on, 2 busy); so many feed lines, with slot, blower, tank, part; and last the day's power bill:
- * whole hundreds of cents, remaining cents, 0, 0. That of a held sheet has no bill: `HELD` and byte 10, a line of 12, the number of slots shown, the
+ * The listing of a plan is `PLAN` and byte 10, then lines of KIWIMOUND_LINE_BYTES: energy, starts, stretch lines,
+ * feed lines; so many stretch lines, with blower, first slot, last slot, state (0 off, 1 idle and on, 2 busy); so
+ * many feed lines, with slot, blower, tank, part; and last the day's power bill: whole hundreds of cents, remaining
+ * cents, 0, 0. That of a held sheet has no bill: `HELD` and byte 10, a line of 12, the number of slots shown, the
  * feedings forced into them, the capacity there; then a line of slot, 0, 0, 0 for each. */
 kiwimound_planned kiwimound_plan(const uint8_t *sheet, size_t sheet_length, uint8_t *listing, size_t listing_length);
 
-/* Plans a sheet into `placing`. Refusals 1 to 9 and 13, then 10 for a buffer under KIWIMOUND_PLACING_BYTES, then 12. Number 0 writes 6,144 bytes at its
- * front: byte (i - 1) * 96 + t - 1 is 1 if ration i is fed in slot t, else 0; 12 writes as many zeros. Bytes after these keep their values; `length` is 0. */
+/* Plans a sheet into `placing`. Refusals 1 to 9 and 13, then 10 for a buffer under KIWIMOUND_PLACING_BYTES, then 12.
+ * Number 0 writes 6,144 bytes at its front: byte (i - 1) * 96 + t - 1 is 1 if ration i is fed in slot t, else 0; 12
+ * writes as many zeros. Bytes after these keep their values; `length` is 0. */
 kiwimound_planned kiwimound_plan_placing(const uint8_t *sheet, size_t sheet_length, uint8_t *placing, size_t placing_length);
 
-/* Plans a sheet into both buffers, each as the calls above. If either is too short, number 10 and neither is changed. `length` is the listing's. */
+/* Plans a sheet into both buffers, each as the calls above. If either is too short, number 10 and neither is
+ * changed. `length` is the listing's. */
 kiwimound_planned kiwimound_plan_both(const uint8_t *sheet, size_t sheet_length, uint8_t *listing, size_t listing_length, uint8_t *placing,
                                       size_t placing_length);
 
 /* Plans a sheet for its number alone: refusals 1 to 9 and 13, then 12, `length` 0. Changes nothing. */
 kiwimound_planned kiwimound_plan_number(const uint8_t *sheet, size_t sheet_length);
 
-/* Whether two sheets have the same day: as many slots, and as many feedings in each. Refusals 1 to 9 and 13, then 12, all of the first sheet's before the
- * second's; the answer does not say which sheet was at fault. Changes nothing. */
+/* Whether two sheets have the same day: as many slots, and as many feedings in each. Refusals 1 to 9 and 13, then
+ * 12, all of the first sheet's before the second's; the answer does not say which sheet was at fault. Changes
+ * nothing. */
 kiwimound_compared kiwimound_compare(const uint8_t *first, size_t first_length, const uint8_t *second, size_t second_length);
 
-/* Rations as records ------------------------------------------------------------------------------------------------------------------------ */
+/* Lists why each stretch of a sheet's plan ends where it does. Refusals 1 to 9 and 13, then 10 for `out` under
+ * KIWIMOUND_CAUSES_BYTES, then 12; on 12, as on every other refusal, no byte is changed. Number 0 writes the listing at
+ * the front of `out`; bytes after it keep their values.
+ *
+ * The listing is lines of KIWIMOUND_LINE_BYTES alone, without a word or a head line before them. Stretches are settled
+ * by blower from the last down to 1, then by slot. In this order each that ends before the day's last slot has an
+ * entry: a line of blower, last slot, cause, number of slots; then a line of slot, 0, 0, 0 for each slot, rising. A
+ * blower busy from slot 1 has the entry of an idle stretch that ends at slot 0. If all entries would be longer than
+ * KIWIMOUND_CAUSES_BYTES, the listing ends before the first that goes beyond these, even if more is lent, and `cut` is
+ * true. */
+kiwimound_causes_answer kiwimound_causes(const uint8_t *sheet, size_t sheet_length, uint8_t *out, size_t out_length);
 
-/* These calls are in a library of their own, librecords.a (`rt staticlib records`). Each answers what the call above answers to the sheet of these head
- * numbers and rations, in their order: refusals 3 to 9 and 13, where `line` is the line that the ration would have had and more than 64 rations are 6, then
- * those of the call itself. */
+/* Rations as records ----------------------------------------------------------------------------------------------- */
+
+/* These calls are in a library of their own, librecords.a (`rt staticlib records`). Each answers what the call above
+ * answers to the sheet of these head numbers and rations, in their order: refusals 3 to 9 and 13, where `line` is
+ * the line that the ration would have had and more than 64 rations are 6, then those of the call itself. */
 
 typedef struct kiwimound_ration {
     uint32_t tank;

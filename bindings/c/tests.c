@@ -1,5 +1,5 @@
-/* Every call of the library, on the days of document 01 ("Days at the edge"), on days with several meals for a tank and on days for the bill: what it
- * answers, what it writes, and what keeps its value. */
+/* Every call of the library, on the days of document 01 ("Days at the edge"), on days with several meals for a tank and
+ * on days for the bill and for causes: what it answers, what it writes, and what keeps its value. */
 #include "kiwimound.h"
 
 #include <stdio.h>
@@ -97,11 +97,13 @@ enum { GUARD = 0xA5, SPARE = 7 }; /* the value of bytes that must keep it, and b
 
 static uint8_t listing[KIWIMOUND_LISTING_BYTES + SPARE];
 static uint8_t placing[KIWIMOUND_PLACING_BYTES + SPARE];
+static uint8_t causes[2 * KIWIMOUND_CAUSES_BYTES]; /* more than any listing of causes takes */
 
 static void guard(void)
 {
     memset(listing, GUARD, sizeof listing);
     memset(placing, GUARD, sizeof placing);
+    memset(causes, GUARD, sizeof causes);
 }
 
 /* From a place on, every byte has its value from before. */
@@ -373,7 +375,147 @@ static void test_compare(void)
     EXPECT(c.number == KIWIMOUND_BAD_WINDOW && c.line == 3 && !c.same);
 }
 
-/* The calls on records: document 01's first sheet, the held one, one whose second window is faulty, and two with several meals for a tank. */
+/* Nothing listed: number and line are these, and every byte keeps its value. */
+static bool is_without_causes(const char *sheet, size_t lent, uint32_t number, uint32_t line)
+{
+    guard();
+    const kiwimound_causes_answer a = kiwimound_causes((const uint8_t *)sheet, strlen(sheet), causes, lent);
+    return a.number == number && a.line == line && a.length == 0 && !a.cut && kept(causes, sizeof causes, 0);
+}
+
+/* The listing is this one, with a buffer just long enough and with longer ones; one byte less is refused. */
+static bool has_causes(const char *sheet, const char *expected)
+{
+    static const size_t lent[] = {KIWIMOUND_CAUSES_BYTES, KIWIMOUND_CAUSES_BYTES + SPARE, sizeof causes};
+    const size_t length = strlen(expected);
+    for (size_t i = 0; i < sizeof lent / sizeof *lent; i++) {
+        guard();
+        const kiwimound_causes_answer a = kiwimound_causes((const uint8_t *)sheet, strlen(sheet), causes, lent[i]);
+        if (a.number != 0 || a.line != 0 || a.length != length || a.cut)
+            return false;
+        if (memcmp(causes, expected, length) != 0 || !kept(causes, sizeof causes, length))
+            return false;
+    }
+    return is_without_causes(sheet, KIWIMOUND_CAUSES_BYTES - 1, KIWIMOUND_SHORT_BUFFER, 0);
+}
+
+static void test_causes(void)
+{
+    /* Blower 2 is idle up to slot 2: idle in slot 3 as well, it would leave slots 1 to 3 room for 3 feedings, and 4 are
+     * forced into them. */
+    EXPECT(has_causes(FOUR_SLOTS,
+                      "    2    2    1    3\n"
+                      "    1    0    0    0\n"
+                      "    2    0    0    0\n"
+                      "    3    0    0    0\n"
+                      "    2    3    2    1\n" /* busy to slot 3: ration 2 alone can be fed in slot 4 */
+                      "    4    0    0    0\n"
+                      "    1    0    1    1\n" /* blower 1 busy from slot 1: ration 1 needs it */
+                      "    1    0    0    0\n"));
+    EXPECT(has_causes("    1    2    1    2\n"
+                      "    1    1    1    1\n"
+                      "    2    1    1    1\n",
+                      "    2    0    1    1\n"
+                      "    1    0    0    0\n"
+                      "    1    0    3    1\n" /* blower 2 is busy in slot 1, so blower 1 can't be idle there */
+                      "    1    0    0    0\n"));
+    EXPECT(has_causes("    3    2    0    4\n"
+                      "    1    1    1    1\n"
+                      "    2    1    1    1\n"
+                      "    3    2    3    1\n"
+                      "    4    2    2    1\n",
+                      "    2    0    1    1\n"
+                      "    1    0    0    0\n"
+                      "    2    2    2    2\n" /* slot 3 alone lacks one feeding, slots 2 and 3 together two */
+                      "    2    0    0    0\n"
+                      "    3    0    0    0\n"
+                      "    1    0    3    1\n"
+                      "    1    0    0    0\n"
+                      "    1    2    2    2\n"
+                      "    2    0    0    0\n"
+                      "    3    0    0    0\n"));
+    EXPECT(has_causes("    3    1    4    0\n", "")); /* no stretch ends before the last slot */
+
+    const size_t whole = KIWIMOUND_CAUSES_BYTES;
+    EXPECT(is_without_causes(FOUR_SLOTS, 0, KIWIMOUND_SHORT_BUFFER, 0));
+    EXPECT(is_without_causes(FOUR_SLOTS, KIWIMOUND_LISTING_BYTES, KIWIMOUND_SHORT_BUFFER, 0));
+    EXPECT(is_without_causes(HELD, whole - 1, KIWIMOUND_SHORT_BUFFER, 0));
+    EXPECT(is_without_causes(HELD, whole, KIWIMOUND_HELD, 0));
+    EXPECT(is_without_causes(HELD, sizeof causes, KIWIMOUND_HELD, 0));
+    static const struct {
+        const char *sheet;
+        uint32_t number, line;
+    } faulty[] = {
+        {"", KIWIMOUND_BAD_LENGTH, 0},
+        {"    3    1    1   00\n", KIWIMOUND_BAD_FIELD, 1},
+        {"   97    1    1    0\n", KIWIMOUND_BAD_SLOTS, 1},
+        {"    3    9    1    0\n", KIWIMOUND_BAD_BLOWERS, 1},
+        {"    3    1  201    0\n", KIWIMOUND_BAD_WAKE, 1},
+        {"    3    1    1    1\n", KIWIMOUND_BAD_RATIONS, 1},
+        {"    3    1    1    1\n    0    1    3    1\n", KIWIMOUND_BAD_TANK, 2},
+        {BAD_WINDOW, KIWIMOUND_BAD_WINDOW, 3},
+        {"    3    1    1    1\n    1    1    3    4\n", KIWIMOUND_BAD_VOLUME, 2},
+        {BAD_MEAL, KIWIMOUND_BAD_MEAL, 3},
+    };
+    for (size_t i = 0; i < sizeof faulty / sizeof *faulty; i++) {
+        EXPECT(is_without_causes(faulty[i].sheet, 0, faulty[i].number, faulty[i].line));
+        EXPECT(is_without_causes(faulty[i].sheet, whole, faulty[i].number, faulty[i].line));
+    }
+}
+
+/* A day of seven blowers whose causes have long sets. Each blower has a ration in slot 1 and in every second slot after
+ * slot volume + 1, `stops` of them, in the last only `late` blowers; seven rations of that volume have the whole day.
+ * These feed slots 2 to volume + 1, and every busy stretch that ends has all of these in its set, and the slot after
+ * it. Gives the sheet's length. */
+static size_t write_long_day(uint8_t sheet[KIWIMOUND_SHEET_BYTES(KIWIMOUND_MAX_RATIONS)], uint32_t volume, uint32_t stops, uint32_t late)
+{
+    const uint32_t blowers = 7;
+    uint32_t numbers[4 * KIWIMOUND_MAX_RATIONS], n = 0;
+    for (uint32_t stop = 0; stop <= stops; stop++) {
+        const uint32_t slot = stop == 0 ? 1 : volume + 1 + 2 * stop;
+        for (uint32_t k = 0; k < (stop == stops ? late : blowers); k++, n++)
+            memcpy(numbers + 4 * n, (uint32_t[]){n + 1, slot, slot, 1}, 4 * sizeof *numbers);
+    }
+    for (uint32_t k = 0; k < blowers; k++, n++)
+        memcpy(numbers + 4 * n, (uint32_t[]){n + 1, 1, KIWIMOUND_MAX_SLOTS, volume}, 4 * sizeof *numbers);
+    const kiwimound_written w =
+        kiwimound_write(KIWIMOUND_MAX_SLOTS, blowers, 1, n, numbers, 4 * (size_t)n, sheet, KIWIMOUND_SHEET_BYTES(n));
+    EXPECT(w.number == 0 && w.length == KIWIMOUND_SHEET_BYTES(n));
+    return w.length;
+}
+
+/* However much is lent, 3,120 lines are listed at most, and no part of an entry. */
+static void test_causes_cut(void)
+{
+    static const struct {
+        uint32_t volume, stops, late;
+        size_t lines;
+        bool cut;
+    } days[] = {
+        {61, 6, 6, 3120, false}, /* as many lines as there is room for */
+        {61, 6, 7, 3120, true},  /* so many, and one entry more */
+        {85, 5, 2, 3119, false},
+        {85, 5, 3, 3119, true}, /* the last entry, of two lines, would be one too many */
+        {85, 5, 4, 3034, true}, /* an entry of 87 lines does not fit, the one of two lines after it would */
+    };
+    static const char opening[] =
+        "    7    0    1    1\n"
+        "    1    0    0    0\n";
+    static uint8_t sheet[KIWIMOUND_SHEET_BYTES(KIWIMOUND_MAX_RATIONS)];
+    EXPECT(KIWIMOUND_CAUSES_BYTES / KIWIMOUND_LINE_BYTES == 3120);
+    for (size_t i = 0; i < sizeof days / sizeof *days; i++)
+        for (size_t lent = KIWIMOUND_CAUSES_BYTES; lent <= sizeof causes; lent += KIWIMOUND_CAUSES_BYTES) {
+            const size_t length = write_long_day(sheet, days[i].volume, days[i].stops, days[i].late);
+            guard();
+            const kiwimound_causes_answer a = kiwimound_causes(sheet, length, causes, lent);
+            EXPECT(a.number == 0 && a.line == 0 && a.cut == days[i].cut);
+            EXPECT(a.length == days[i].lines * KIWIMOUND_LINE_BYTES && kept(causes, sizeof causes, a.length));
+            EXPECT(memcmp(causes, opening, sizeof opening - 1) == 0);
+        }
+}
+
+/* The calls on records: document 01's first sheet, the held one, one whose second window is faulty, and two with
+ * several meals for a tank. */
 static void test_records(void)
 {
     static const kiwimound_ration four_slots[] = {{1, 1, 2, 2}, {2, 1, 4, 2}, {3, 2, 3, 1}};
@@ -432,6 +574,8 @@ int main(void)
     test_held();
     test_refused();
     test_compare();
+    test_causes();
+    test_causes_cut();
     test_records();
     printf(failures == 0 ? "tests.c: ok\n" : "tests.c: FAILED\n");
     return failures != 0;

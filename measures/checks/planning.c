@@ -9,17 +9,20 @@
 
 enum { LINE = KIWIMOUND_LINE_BYTES, WORD = 5, SLOTS = KIWIMOUND_MAX_SLOTS };
 
-/* A line of a listing that was written by the library. */
-static void line_at(const uint8_t *listing, size_t line, uint32_t numbers[4]) {
+void read_line(const uint8_t *line, uint32_t numbers[4]) {
     char text[LINE + 1] = {0};
-    memcpy(text, listing + WORD + LINE * line, LINE);
+    memcpy(text, line, LINE);
     if (sscanf(text, "%5u%5u%5u%5u", &numbers[0], &numbers[1], &numbers[2], &numbers[3]) != 4) fail("a line without four numbers");
     char again[64];
     snprintf(again, sizeof again, "%5u%5u%5u%5u\n", numbers[0], numbers[1], numbers[2], numbers[3]);
     if (strcmp(text, again)) fail("a line in another form");
 }
 
-/* The feed lines: each meal has its volume in its window, its parts counted from 1; each slot has no more than the blowers, and a tank once at most. */
+/* A line of a listing after its opening word. */
+static void line_at(const uint8_t *listing, size_t line, uint32_t numbers[4]) { read_line(listing + WORD + LINE * line, numbers); }
+
+/* The feed lines: each meal has its volume in its window, its parts counted from 1; each slot has no more than the
+ * blowers, and a tank once at most. */
 static void check_feeds(const kiwimound_reading *sheet, const uint8_t *listing, uint32_t stretches, uint32_t feeds, uint8_t *grid, uint32_t *counts) {
     uint32_t parts[64] = {0}, slot = 0;
     for (uint32_t i = 0; i < feeds; i++) {
@@ -65,7 +68,8 @@ static uint32_t check_bill(const kiwimound_reading *sheet, const uint8_t *listin
     return cents;
 }
 
-/* The stretch lines: they cover the day of each blower, busy where the slot's count is at least its number; and the energy adds up. */
+/* The stretch lines: they cover the day of each blower, busy where the slot's count is at least its number; and the
+ * energy adds up. */
 static void check_stretches(const kiwimound_reading *sheet, const uint8_t *listing, const uint32_t head[4], const uint32_t *counts) {
     uint32_t line = 0, on = 0, starts = 0;
     for (uint32_t k = 1; k <= sheet->blowers; k++) {
@@ -149,7 +153,7 @@ struct outcome check_planning(const uint8_t *bytes, size_t size, uint32_t choice
     kiwimound_reading r = kiwimound_read(sheet, size);
     size_t one = size_of(KIWIMOUND_LISTING_BYTES, choice), other = size_of(KIWIMOUND_PLACING_BYTES, choice >> 8);
     bool short_one = one < KIWIMOUND_LISTING_BYTES, short_other = other < KIWIMOUND_PLACING_BYTES;
-    struct outcome outcome = {kiwimound_plan_number(sheet, size).number, 0, 0, 0, 0, 0};
+    struct outcome outcome = {kiwimound_plan_number(sheet, size).number, 0, 0, 0, 0, 0, 0};
     uint32_t number = outcome.number;
     if (r.number ? number != r.number : number != 0 && number != 12) fail("another number");
     bool planned = number == 0 || number == 12;
@@ -196,6 +200,7 @@ struct outcome check_planning(const uint8_t *bytes, size_t size, uint32_t choice
     for (uint32_t t = 0; number == 0 && t < r.slots; t++) marks[t] = choice >> t % 32 & 1;
     if (planned && expected == number) check_questions(sheet, size, &r, outcome, listing, marks, counts);
     take_back(LISTING, p.length);
+    outcome.causes = check_causes(sheet, size, &r, number, expected == 0 ? counts : NULL, size_of(KIWIMOUND_CAUSES_BYTES, choice >> 16));
     if (r.number == 0) check_records(&r, choice, one, other);
 
     const uint8_t *second = lend_bytes(SECOND, bytes, size);

@@ -1,11 +1,13 @@
-/* What libFuzzer runs. An input is four bytes that choose the sizes lent, and a sheet. Compiled with -DREADING for the reading calls alone, which get
- * bytes changed at random; else for all calls, which get mostly sheets changed by their fields. */
+/* What libFuzzer runs. An input is four bytes that choose the sizes lent, and a sheet. Compiled with -DREADING for
+ * the reading calls alone, which get bytes changed at random; else for all calls, which get mostly sheets changed by
+ * their fields. */
 #include "checks.h"
 #include "mutate.h"
 
 #include <string.h>
 
-/* The library has no counters for libFuzzer to follow, so what its answers come to is counted instead: a new kind of answer keeps the input. */
+/* The library has no counters for libFuzzer to follow, so what its answers come to is counted instead: a new kind of
+ * answer keeps the input. */
 __attribute__((used, section("__libfuzzer_extra_counters"))) static uint8_t reached[4096];
 
 static void reach(uint32_t place) { reached[place % sizeof reached] = 1; }
@@ -34,6 +36,7 @@ int LLVMFuzzerTestOneInput(const uint8_t *data, size_t size) {
     reach(500 + o.shown);
     reach(700 + o.energy / 16);
     reach(2000 + o.cents / 4);
+    reach(3300 + o.causes / 8);
 #endif
     return 0;
 }

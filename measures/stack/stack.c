@@ -1,4 +1,5 @@
-/* How much stack each call needs beyond what it is lent: it runs in a thread on painted memory, and the lowest byte that changed says how deep it went. */
+/* How much stack each call needs beyond what it is lent: it runs in a thread on painted memory, and the lowest byte
+ * that changed says how deep it went. */
 #include "kiwimound.h"
 #include "packed.h"
 
@@ -27,6 +28,7 @@ static void plan_placing(void) { kiwimound_plan_placing(sheet, size, placing, si
 static void plan_both(void) { kiwimound_plan_both(sheet, size, listing, sizeof listing, placing, sizeof placing); }
 static void plan_number(void) { kiwimound_plan_number(sheet, size); }
 static void compare(void) { kiwimound_compare(sheet, size, sheet, size); }
+static void causes(void) { kiwimound_causes(sheet, size, out, sizeof out); }
 static void shortfall(void) { kiwimound_shortfall(sheet, size, marks, reading.slots); }
 static void bounds(void) { kiwimound_bounds(sheet, size, lows, reading.slots, highs, reading.slots); }
 
@@ -52,6 +54,7 @@ static struct {
     {"plan_both", plan_both, 0},
     {"plan_number", plan_number, 0},
     {"compare", compare, 0},
+    {"causes", causes, 0},
     {"shortfall", shortfall, 0},
     {"bounds", bounds, 0},
     {"write_rations", write_rations, 0},

@@ -1,11 +1,13 @@
-//! The library's calls, as include/kiwimound.h declares them, each behind a safe function: a slice's pointer and length are valid as lent, and `&mut`
-//! overlaps nothing. No other module is unsafe.
+//! The library's calls, as include/kiwimound.h declares them, each behind a safe function: a slice's pointer and length
+//! are valid as lent, and `&mut` overlaps nothing. No other module is unsafe.
 #![allow(unsafe_code)]
 
 /// The least length of a plan buffer.
 const LISTING_BYTES: usize = 32_303;
 /// The least length of a placing buffer.
 const PLACING_BYTES: usize = 6_144;
+/// The least length of a buffer for causes.
+const CAUSES_BYTES: usize = 65_536;
 /// Bytes of a line of a sheet or of a listing.
 pub const LINE_BYTES: usize = 21;
 /// The most slots of a day.
@@ -65,8 +67,18 @@ pub struct BoundsAnswer {
     pub yes: bool,
 }
 
+#[repr(C)]
+pub struct CausesAnswer {
+    pub number: u32,
+    pub line: u32,
+    pub length: usize,
+    pub cut: bool,
+}
+
 mod calls {
-    use super::{BoundsAnswer, Compared, Part, Planned, Reading, ShortfallAnswer, Written};
+    use super::{
+        BoundsAnswer, CausesAnswer, Compared, Part, Planned, Reading, ShortfallAnswer, Written,
+    };
 
     extern "C" {
         pub fn kiwimound_read(sheet: *const u8, length: usize) -> Reading;
@@ -110,6 +122,12 @@ mod calls {
             second: *const u8,
             second_length: usize,
         ) -> Compared;
+        pub fn kiwimound_causes(
+            sheet: *const u8,
+            length: usize,
+            out: *mut u8,
+            out_length: usize,
+        ) -> CausesAnswer;
     }
 }
 
@@ -195,4 +213,30 @@ pub fn plan_number(sheet: &[u8]) -> Planned {
 
 pub fn compare(first: &[u8], second: &[u8]) -> Compared {
     unsafe { calls::kiwimound_compare(first.as_ptr(), first.len(), second.as_ptr(), second.len()) }
+}
+
+/// What listing causes gives: its number, the listing's bytes, and whether it was cut.
+pub struct Caused {
+    pub number: u32,
+    pub listing: Vec<u8>,
+    pub cut: bool,
+}
+
+/// Lists causes into a buffer of its full size, so that it is not too short.
+pub fn causes(sheet: &[u8]) -> Caused {
+    let mut listing = vec![0; CAUSES_BYTES];
+    let answer = unsafe {
+        calls::kiwimound_causes(
+            sheet.as_ptr(),
+            sheet.len(),
+            listing.as_mut_ptr(),
+            listing.len(),
+        )
+    };
+    listing.truncate(answer.length);
+    Caused {
+        number: answer.number,
+        listing,
+        cut: answer.cut,
+    }
 }

@@ -1,8 +1,8 @@
 //! Plans the feed day of a trout farm: which blowers run in which quarter-hour, and what they feed.
 //!
-//! The planning is done by `libkiwimound.a`, whose every function is proved against a written definition. This crate adds types that leave little to
-//! get wrong: a [`Sheet`] is bytes that were accepted, so that each question about one has an answer; buffers have their full size; the listing comes
-//! back as numbers.
+//! The planning is done by `libkiwimound.a`, whose every function is proved against a written definition. This crate
+//! adds types that leave little to get wrong: a [`Sheet`] is bytes that were accepted, so that each question about one
+//! has an answer; buffers have their full size; the listing comes back as numbers.
 //!
 //! ```
 //! use kiwimound::{Sheet, State};
@@ -22,12 +22,14 @@
 #![deny(missing_docs)]
 #![deny(unsafe_code)]
 
+mod causes;
 mod ffi;
 mod listing;
 mod plan;
 mod refusal;
 mod sheet;
 
+pub use causes::{Cause, Causes, Ending};
 pub use plan::{Feeding, Held, Plan, State, Stretch};
 pub use refusal::{Fault, Refusal};
 pub use sheet::{Bounds, Comparison, Head, Ration, Sheet};

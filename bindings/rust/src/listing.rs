@@ -4,10 +4,14 @@ use crate::ffi::LINE_BYTES;
 const OPENING_BYTES: usize = 5;
 const WIDTH: usize = 5;
 
-/// The four numbers of each line after the opening word. The bytes are the library's, which writes fields in their stated form alone.
-pub fn lines(listing: &[u8]) -> impl Iterator<Item = [u32; 4]> + '_ {
-    listing[OPENING_BYTES..]
-        .chunks_exact(LINE_BYTES)
+/// The four numbers of each line after the opening word.
+pub fn lines_after_word(listing: &[u8]) -> impl Iterator<Item = [u32; 4]> + '_ {
+    lines(&listing[OPENING_BYTES..])
+}
+
+/// The four numbers of each line. The bytes are the library's, which writes fields in their stated form alone.
+pub fn lines(text: &[u8]) -> impl Iterator<Item = [u32; 4]> + '_ {
+    text.chunks_exact(LINE_BYTES)
         .map(|line| [0, 1, 2, 3].map(|f| number(&line[WIDTH * f..WIDTH * (f + 1)])))
 }
 

@@ -55,7 +55,7 @@ pub struct Plan {
 
 impl Plan {
     pub(crate) fn new(listing: Vec<u8>, placing: Vec<u8>) -> Plan {
-        let mut lines = listing::lines(&listing);
+        let mut lines = listing::lines_after_word(&listing);
         let [energy, starts, stretches, feedings] =
             lines.next().expect("a plan has its first line");
         let stretches = lines
@@ -105,8 +105,8 @@ impl Plan {
         self.starts
     }
 
-    /// The day's power bill in whole cents: each energy unit at the rate of its hour, a start's at that of its first on slot; the sum over all blowers,
-    /// rounded, halves upward.
+    /// The day's power bill in whole cents: each energy unit at the rate of its hour, a start's at that of its first on
+    /// slot; the sum over all blowers, rounded, halves upward.
     pub fn bill(&self) -> u32 {
         self.bill
     }
@@ -121,7 +121,8 @@ impl Plan {
         &self.feedings
     }
 
-    /// Whether a ration, counted from 0 in sheet order, is fed in a slot, counted from 1; false for a ration or a slot that the day does not have.
+    /// Whether a ration, counted from 0 in sheet order, is fed in a slot, counted from 1; false for a ration or a slot
+    /// that the day does not have.
     pub fn is_fed(&self, ration: usize, slot: u32) -> bool {
         let slot = slot as usize;
         ration < ffi::MAX_RATIONS
@@ -153,7 +154,7 @@ pub struct Held {
 
 impl Held {
     pub(crate) fn new(listing: &[u8]) -> Held {
-        let mut lines = listing::lines(listing);
+        let mut lines = listing::lines_after_word(listing);
         let [_, _, forced, capacity] = lines
             .next()
             .expect("a held sheet's listing has its line of counts");

@@ -1,4 +1,5 @@
 //! Feed sheets, and the questions about one.
+use crate::causes::Causes;
 use crate::ffi;
 use crate::plan::{Held, Plan};
 use crate::refusal::{Fault, Refusal};
@@ -14,7 +15,8 @@ pub struct Head {
     pub wake: u32,
 }
 
-/// A meal of a tank. A tank may have several, one after another on the sheet, each beginning after the last slot of the one before.
+/// A meal of a tank. A tank may have several, one after another on the sheet, each beginning after the last slot of the
+/// one before.
 #[derive(Clone, Copy, Debug, PartialEq, Eq, Hash)]
 pub struct Ration {
     /// The tank, 1 to 999; on a sheet, not below that of the ration before.
@@ -145,7 +147,8 @@ impl Sheet {
         (part.length != 0).then(|| &self.bytes[part.start..part.start + part.length])
     }
 
-    /// The meals of a tank, in the order of the day, as a part of [`Sheet::rations`]; none if the sheet has no such tank.
+    /// The meals of a tank, in the order of the day, as a part of [`Sheet::rations`]; none if the sheet has no such
+    /// tank.
     pub fn meals(&self, tank: u32) -> &[Ration] {
         let part = ffi::find(&self.bytes, tank);
         // the head line stands before the first ration's
@@ -157,7 +160,8 @@ impl Sheet {
     ///
     /// # Errors
     ///
-    /// The sheet is held for want of blowers: some slots have more feedings forced into them than the blowers can make there.
+    /// The sheet is held for want of blowers: some slots have more feedings forced into them than the blowers can make
+    /// there.
     pub fn plan(&self) -> Result<Plan, Held> {
         let day = ffi::plan(&self.bytes);
         match day.number {
@@ -172,8 +176,35 @@ impl Sheet {
         ffi::plan_number(&self.bytes).number == 0
     }
 
-    /// The shortfall of the slots that pass a test, which is asked of each slot of the day from 1 on: the feedings that are forced into them, less those
-    /// that the blowers can make there. Below zero is spare capacity.
+    /// Why each stretch of the day's plan ends where it does.
+    ///
+    /// ```
+    /// use kiwimound::{Cause, Sheet};
+    ///
+    /// let sheet = Sheet::read("    3    1    1    1\n    1    1    3    1\n")?;
+    /// let causes = sheet.causes()?;
+    /// // Blower 1 starts in slot 3 and no later: idle to slot 3, it leaves the ration none of its slots.
+    /// let idle = &causes.endings()[0];
+    /// assert_eq!((idle.blower, idle.last), (1, 2));
+    /// assert_eq!(idle.cause, Cause::Shortfall { slots: vec![1, 2, 3] });
+    /// # Ok::<(), Box<dyn std::error::Error>>(())
+    /// ```
+    ///
+    /// # Errors
+    ///
+    /// The sheet is held for want of blowers, as for [`Sheet::plan`].
+    pub fn causes(&self) -> Result<Causes, Held> {
+        let caused = ffi::causes(&self.bytes);
+        match caused.number {
+            0 => Ok(Causes::new(caused.listing, caused.cut)),
+            // nothing is listed then, and planning shows the slots
+            12 => Err(Held::new(&ffi::plan(&self.bytes).listing)),
+            number => unreachable!("number {number} for an accepted sheet"),
+        }
+    }
+
+    /// The shortfall of the slots that pass a test, which is asked of each slot of the day from 1 on: the feedings that
+    /// are forced into them, less those that the blowers can make there. Below zero is spare capacity.
     pub fn shortfall(&self, is_in: impl FnMut(u32) -> bool) -> i32 {
         let marks: Vec<u8> = (1..=self.head.slots).map(is_in).map(u8::from).collect();
         ffi::shortfall(&self.bytes, &marks).shortfall

@@ -1,5 +1,8 @@
-//! The days of document 01 ("Days at the edge"), days with several meals for a tank and days for the bill, through the safe interface.
-use kiwimound::{Bounds, Comparison, Fault, Feeding, Head, Held, Ration, Refusal, Sheet, State};
+//! The days of document 01 ("Days at the edge"), days with several meals for a tank and days for the bill and for
+//! causes, through the safe interface.
+use kiwimound::{
+    Bounds, Cause, Comparison, Ending, Fault, Feeding, Head, Held, Ration, Refusal, Sheet, State,
+};
 
 /// A sheet from its head numbers and its rations, by the library's writer.
 fn sheet(slots: u32, blowers: u32, wake: u32, rations: &[[u32; 4]]) -> Sheet {
@@ -265,6 +268,132 @@ fn compared() {
     assert_eq!(one_feeding().compare(&four_slots()), Comparison::Different);
     assert_eq!(one_feeding().compare(&held()), Comparison::Held);
     assert_eq!(held().compare(&one_feeding()), Comparison::Held);
+}
+
+/// The endings of a day whose listing is not cut; it has a line for each, and one for each of its slots.
+fn endings(sheet: &Sheet) -> Vec<Ending> {
+    let causes = sheet.causes().unwrap();
+    assert!(!causes.is_cut());
+    let lines = causes.endings().iter().map(|e| 1 + e.cause.slots().len());
+    assert_eq!(causes.listing().len(), 21 * lines.sum::<usize>());
+    causes.endings().to_vec()
+}
+
+fn ending(blower: u32, last: u32, cause: Cause) -> Ending {
+    Ending {
+        blower,
+        last,
+        cause,
+    }
+}
+
+fn shortfall(slots: &[u32]) -> Cause {
+    let slots = slots.to_vec();
+    Cause::Shortfall { slots }
+}
+
+fn excess(slots: &[u32]) -> Cause {
+    let slots = slots.to_vec();
+    Cause::Excess { slots }
+}
+
+#[test]
+fn causes_of_the_first_listing() {
+    assert_eq!(
+        endings(&four_slots()),
+        [
+            ending(2, 2, shortfall(&[1, 2, 3])),
+            ending(2, 3, excess(&[4])),
+            ending(1, 0, shortfall(&[1]))
+        ]
+    );
+    let causes = four_slots().causes().unwrap();
+    assert!(causes.listing().starts_with(b"    2    2    1    3\n"));
+    let numbers: Vec<u32> = causes.endings().iter().map(|e| e.cause.number()).collect();
+    assert_eq!(numbers, [1, 2, 1]);
+}
+
+#[test]
+fn causes_of_each_kind() {
+    let crossed = sheet(1, 2, 1, &[[1, 1, 1, 1], [2, 1, 1, 1]]);
+    let low_above_high = Cause::LowAboveHigh { slot: 1 };
+    assert_eq!(
+        (low_above_high.number(), low_above_high.slots()),
+        (3, &[1][..])
+    );
+    assert_eq!(
+        endings(&crossed),
+        [
+            ending(2, 0, shortfall(&[1])),
+            ending(1, 0, low_above_high.clone())
+        ]
+    );
+    // slot 3 alone lacks one feeding, slots 2 and 3 together two
+    let narrow = [[1, 1, 1, 1], [2, 1, 1, 1], [3, 2, 3, 1], [4, 2, 2, 1]];
+    assert_eq!(
+        endings(&sheet(3, 2, 0, &narrow)),
+        [
+            ending(2, 0, shortfall(&[1])),
+            ending(2, 2, excess(&[2, 3])),
+            ending(1, 0, low_above_high),
+            ending(1, 2, excess(&[2, 3]))
+        ]
+    );
+    // no stretch ends before the last slot
+    assert_eq!(endings(&sheet(3, 1, 4, &[])), []);
+}
+
+/// Each stretch of the plan that ends before the last slot has an ending, and so has a blower that is busy from slot 1.
+#[test]
+fn causes_of_the_plan_s_own_stretches() {
+    for day in [four_slots(), one_feeding(), two_meals()] {
+        let Head { slots, blowers, .. } = day.head();
+        let plan = day.plan().unwrap();
+        let mut expected = Vec::new();
+        for blower in (1..=blowers).rev() {
+            for s in plan.stretches().iter().filter(|s| s.blower == blower) {
+                if s.first == 1 && s.state == State::Busy {
+                    expected.push((blower, 0));
+                }
+                if s.last < slots {
+                    expected.push((blower, s.last));
+                }
+            }
+        }
+        let listed: Vec<_> = endings(&day).iter().map(|e| (e.blower, e.last)).collect();
+        assert_eq!(listed, expected);
+    }
+}
+
+#[test]
+fn no_causes_of_a_held_sheet() {
+    assert_eq!(held().causes().unwrap_err(), held().plan().unwrap_err());
+}
+
+/// Seven blowers have a ration each in slot 1 and in four slots late in the day, and three of them in slot 96; seven
+/// rations have the whole day. The slots that they feed are in the set of every busy stretch, so that the listing would
+/// have 3,121 lines, one more than there is room for.
+#[test]
+fn causes_cut() {
+    let mut rations = vec![[0, 1, 96, 85]; 7];
+    for slot in [1, 88, 90, 92, 94] {
+        rations.extend([[0, slot, slot, 1]; 7]);
+    }
+    rations.extend([[0, 96, 96, 1]; 3]);
+    for (ration, tank) in rations.iter_mut().zip(1..) {
+        ration[0] = tank;
+    }
+    let causes = sheet(96, 7, 1, &rations).causes().unwrap();
+    assert!(causes.is_cut());
+    assert_eq!(causes.listing().len(), 21 * 3_119);
+    let last = causes.endings().last().unwrap();
+    let slots: Vec<u32> = (2..=86).chain([95]).collect();
+    assert_eq!(*last, ending(1, 94, Cause::Excess { slots }));
+    // one ration less, and the last entry fits
+    let fewer = sheet(96, 7, 1, &rations[..44]).causes().unwrap();
+    assert!(!fewer.is_cut());
+    assert_eq!(fewer.listing().len(), 21 * 3_119);
+    assert_eq!(fewer.endings().last().unwrap().last, 95);
 }
 
 #[test]

@@ -1,9 +1,10 @@
-//! The implementations that plan, as calls of one shape.
+//! The implementations that plan, and the call that lists causes, as calls of one shape.
 
+use reference::causes::CAUSES_BUFFER;
 use sheets::{Kind, Sizes, FULL};
 use std::hint::black_box;
 
-/// Plans a sheet into a plan buffer; gives number, line and length.
+/// Plans a sheet into a plan buffer, or lists its causes; gives number, line and length.
 pub type Engine = fn(&[u8], &mut [u8]) -> (u32, u32, usize);
 
 pub fn library(sheet: &[u8], listing: &mut [u8]) -> (u32, u32, usize) {
@@ -23,17 +24,29 @@ pub fn reference(sheet: &[u8], listing: &mut [u8]) -> (u32, u32, usize) {
     reference::listing::plan(sheet, Some(listing), None)
 }
 
+/// Lists causes, into a buffer for these.
+pub fn causes(sheet: &[u8], out: &mut [u8]) -> (u32, u32, usize) {
+    let answer = library::causes(sheet, out);
+    (answer.number, answer.line, answer.length)
+}
+
+pub fn reference_causes(sheet: &[u8], out: &mut [u8]) -> (u32, u32, usize) {
+    let (number, line, length, _) = reference::causes::causes(sheet, out);
+    (number, line, length)
+}
+
 pub fn named(name: &str) -> Option<Engine> {
     match name {
         "library" => Some(library),
         "plain" => Some(plain_plan),
+        "causes" => Some(causes),
         _ => None,
     }
 }
 
-/// A plan buffer.
-pub fn listing() -> Vec<u8> {
-    vec![7; plain::PLAN_BYTES]
+/// A buffer that takes causes, which is more than a plan takes.
+pub fn buffer() -> Vec<u8> {
+    vec![7; CAUSES_BUFFER]
 }
 
 /// The bytes of sheets, the same for every measure.
@@ -42,10 +55,10 @@ pub fn texts(kind: Kind, sizes: Sizes, count: usize) -> Vec<Vec<u8>> {
     sheets.iter().map(|sheet| sheet.text()).collect()
 }
 
-/// Plans every sheet once.
+/// Makes the call on every sheet once.
 pub fn once(engine: Engine, kind: Kind, count: usize) {
-    let mut listing = listing();
+    let mut out = buffer();
     for sheet in texts(kind, FULL, count) {
-        black_box(engine(&sheet, &mut listing));
+        black_box(engine(&sheet, &mut out));
     }
 }

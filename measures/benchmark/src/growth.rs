@@ -1,6 +1,6 @@
 //! How the cost of planning grows with slots, blowers and rations.
 
-use crate::engines::{library, listing, texts};
+use crate::engines::{buffer, library, texts};
 use crate::plot::{plot, Line, Panel};
 use crate::stats::{time, Times};
 use sheets::{Kind, Sizes, FULL};
@@ -77,7 +77,7 @@ pub fn run(count: usize, file: &Path) -> Result<(), String> {
         let row: Vec<_> = sizes.map(|(value, sizes)| (value, points(sizes))).collect();
         (name, row)
     });
-    let mut out = listing();
+    let mut out = buffer();
     for _ in 0..PASSES {
         let rows = all.iter_mut().flat_map(|(_, rows)| rows);
         for point in rows.flat_map(|(_, points)| points) {

@@ -1,6 +1,6 @@
 //! The method over a max-flow library, a program of its own (flow/lemon.cc).
 
-use crate::engines::{library, listing};
+use crate::engines::{buffer, library};
 use crate::planning::SLOW_PASSES;
 use crate::stats::Times;
 use sheets::pack::pack;
@@ -31,7 +31,7 @@ fn pass(
     whole: &mut [Duration],
 ) -> Result<(), String> {
     let mut rest = output;
-    let mut own = listing();
+    let mut own = buffer();
     for (at, sheet) in sheets.iter().enumerate() {
         counts[at] = counts[at].min(Duration::from_nanos(number(&mut rest, 8)));
         whole[at] = whole[at].min(Duration::from_nanos(number(&mut rest, 8)));

@@ -2,6 +2,7 @@
 //! reference implementation and a max-flow library, on the same sheets and in one run.
 //! Tables are in Markdown.
 
+mod causes;
 mod engines;
 mod growth;
 mod lemon;
@@ -14,13 +15,14 @@ use std::path::PathBuf;
 use std::process::ExitCode;
 
 const USAGE: &str = "usage: benchmark planning SHEETS SLOW-SHEETS [LEMON-PROGRAM]
+       benchmark causes SHEETS SLOW-SHEETS
        benchmark questions SHEETS SLOW-SHEETS
        benchmark growth SHEETS PLOT
-       benchmark once library|plain KIND SHEETS
+       benchmark once library|plain|causes KIND SHEETS
        benchmark shortfall library|plain|by-slot KIND SHEETS
 SLOW-SHEETS is how many of the sheets the slower implementations get. PLOT is the file that the
-plot is written to. `once` plans each sheet once, and `shortfall` asks the shortfall of each once,
-for instructions to be counted.";
+plot is written to. `once` plans each sheet once, or lists its causes, and `shortfall` asks the
+shortfall of each once, for instructions to be counted.";
 
 fn answer(words: &[&str]) -> Option<Result<(), String>> {
     Some(match *words {
@@ -29,6 +31,7 @@ fn answer(words: &[&str]) -> Option<Result<(), String>> {
             let lemon = PathBuf::from(lemon);
             planning::run(count.parse().ok()?, slow.parse().ok()?, Some(&lemon))
         }
+        ["causes", count, slow] => causes::run(count.parse().ok()?, slow.parse().ok()?),
         ["questions", count, slow] => questions::run(count.parse().ok()?, slow.parse().ok()?),
         ["growth", count, plot] => growth::run(count.parse().ok()?, &PathBuf::from(plot)),
         ["once", engine, kind, count] => {

@@ -1,6 +1,6 @@
 //! Planning full sheets.
 
-use crate::engines::{self, library, listing, plain_plan, reference, Engine};
+use crate::engines::{self, buffer, library, plain_plan, reference, Engine};
 use crate::lemon;
 use crate::stats::{spread, time, Times};
 use sheets::{Kind, FULL, KINDS};
@@ -10,36 +10,36 @@ use std::time::Duration;
 
 /// The pass over all sheets is made so often; a sheet's least time counts, since whatever
 /// else the machine does only adds to it.
-const PASSES: usize = 15;
+pub const PASSES: usize = 15;
 /// The same of the slower programs.
 pub const SLOW_PASSES: usize = 3;
 
-/// Whether two engines plan every sheet the same.
-fn agree(sheets: &[Vec<u8>], one: Engine, other: Engine) -> bool {
-    let (mut a, mut b) = (listing(), listing());
+/// Whether two engines answer every sheet the same.
+pub fn agree(sheets: &[Vec<u8>], one: Engine, other: Engine) -> bool {
+    let (mut a, mut b) = (buffer(), buffer());
     let same = |sheet: &Vec<u8>| one(sheet, &mut a) == other(sheet, &mut b) && a == b;
     sheets.iter().all(same)
 }
 
 /// The time of each sheet, and the median over sheets in each pass.
-struct Measured {
+pub struct Measured {
     least: Vec<Duration>,
     medians: Vec<f64>,
 }
 
 impl Measured {
-    fn times(&self) -> Times {
+    pub fn times(&self) -> Times {
         Times::of(self.least.clone())
     }
 }
 
 /// Measures engines that take each sheet in turn.
-fn measure<const N: usize>(
+pub fn measure<const N: usize>(
     sheets: &[Vec<u8>],
     passes: usize,
     engines: [Engine; N],
 ) -> [Measured; N] {
-    let mut out = listing();
+    let mut out = buffer();
     let mut all = engines.map(|_| Measured {
         least: vec![Duration::MAX; sheets.len()],
         medians: Vec::new(),
@@ -62,8 +62,8 @@ fn measure<const N: usize>(
     all
 }
 
-fn row(kind: Kind, what: &str, times: &Times, ratio: &str) {
-    println!("| {} | {what} | {} | {ratio} |", kind.name(), times.cells());
+pub fn row(sheets: &str, what: &str, times: &Times, ratio: &str) {
+    println!("| {sheets} | {what} | {} | {ratio} |", times.cells());
 }
 
 fn run_kind(kind: Kind, count: usize, slow: usize, lemon: Option<&Path>) -> Result<String, String> {
@@ -75,8 +75,13 @@ fn run_kind(kind: Kind, count: usize, slow: usize, lemon: Option<&Path>) -> Resu
     let [proved, plain] = measure(&sheets, PASSES, [library, plain_plan]);
     let own = proved.times();
     let ratio = plain.times().median() / own.median();
-    row(kind, "library", &own, "1");
-    row(kind, "plain Rust", &plain.times(), &format!("{ratio:.2}"));
+    row(kind.name(), "library", &own, "1");
+    row(
+        kind.name(),
+        "plain Rust",
+        &plain.times(),
+        &format!("{ratio:.2}"),
+    );
 
     // The slower ones plan some of the sheets, and are set beside the library on these.
     if !some.is_empty() {
@@ -85,12 +90,12 @@ fn run_kind(kind: Kind, count: usize, slow: usize, lemon: Option<&Path>) -> Resu
         let [flow] = measure(some, SLOW_PASSES, [reference]);
         let times = flow.times();
         let ratio = times.median() / own.median();
-        row(kind, "reference", &times, &format!("{ratio:.0}"));
+        row(kind.name(), "reference", &times, &format!("{ratio:.0}"));
         if let Some(program) = lemon {
             let (counts, whole) = lemon::plan(program, some)?;
             for (what, times) in [("LEMON, counts alone", counts), ("LEMON", whole)] {
                 let ratio = times.median() / own.median();
-                row(kind, what, &times, &format!("{ratio:.0}"));
+                row(kind.name(), what, &times, &format!("{ratio:.0}"));
             }
         }
     }

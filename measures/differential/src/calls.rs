@@ -4,7 +4,8 @@ use crate::expected::Expected;
 use crate::form::Form;
 use crate::lent::Lent;
 use crate::values::Values;
-use crate::{planning, questions, reading};
+use crate::{causes, planning, questions, reading};
+use reference::causes::CAUSES_BUFFER;
 use reference::draws::Draws;
 use reference::listing::{PLACING_BUFFER, PLAN_BUFFER};
 use reference::sheet::LINE;
@@ -13,6 +14,7 @@ use reference::sheet::LINE;
 pub struct Buffers {
     pub listing: Lent,
     pub placing: Lent,
+    pub causes: Lent,
     pub sheet: Lent,
 }
 
@@ -24,6 +26,7 @@ impl Buffers {
         Buffers {
             listing: Lent::new(PLAN_BUFFER + MORE),
             placing: Lent::new(PLACING_BUFFER + MORE),
+            causes: Lent::new(CAUSES_BUFFER + MORE),
             sheet: Lent::new(65 * LINE + MORE),
         }
     }
@@ -64,6 +67,7 @@ pub fn check(
     reading::check_find(e, draws)?;
     planning::check_sheet(e, draws, b)?;
     planning::check_compare(e, second)?;
+    causes::check_causes(e, draws, b)?;
 
     let mut values = Values::of(e, draws);
     reading::check_write(&values, draws, b)?;

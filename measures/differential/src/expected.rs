@@ -1,6 +1,7 @@
 //! What document 01 asks of every call on a day, from the reference implementation.
 
 use crate::values::Values;
+use reference::causes::{self, CAUSES_BUFFER};
 use reference::listing::{held_text, plan_text, PLACING_BUFFER, PLAN_BUFFER};
 use reference::sheet::{read, write, Refusal, Sheet, LINE, MOST_SLOTS};
 use reference::{method, placing};
@@ -78,6 +79,25 @@ impl Expected {
             return (10, 0);
         }
         (self.number, 0)
+    }
+
+    /// The number and line of listing causes, lent a buffer of this size.
+    pub fn listing_causes(&self, size: usize) -> (u32, u32) {
+        match self.planning(None, None) {
+            (0 | 12, _) if size < CAUSES_BUFFER => (10, 0),
+            refusal => refusal,
+        }
+    }
+
+    /// The listing of the causes of a planned sheet, and whether it was cut.
+    pub fn causes(&self) -> (Vec<u8>, bool) {
+        match &self.sheet {
+            Ok(sheet) if self.number == 0 => {
+                let entries = causes::entries(sheet).expect("the sheet is planned");
+                causes::listing(&entries)
+            }
+            _ => (Vec::new(), false),
+        }
     }
 
     /// The number that the run counts the sheet under.

@@ -2,6 +2,7 @@
 //! every length that matters, on many sheets of all kinds.
 
 mod calls;
+mod causes;
 mod expected;
 mod form;
 mod lent;

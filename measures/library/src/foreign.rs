@@ -34,6 +34,15 @@ pub struct BoundsAnswer {
 
 #[repr(C)]
 #[derive(Clone, Copy, Debug, PartialEq, Eq)]
+pub struct CausesAnswer {
+    pub number: u32,
+    pub line: u32,
+    pub length: usize,
+    pub cut: bool,
+}
+
+#[repr(C)]
+#[derive(Clone, Copy, Debug, PartialEq, Eq)]
 pub struct Reading {
     pub number: u32,
     pub line: u32,
@@ -73,6 +82,7 @@ extern "C" {
     ) -> Planned;
     pub fn kiwimound_plan_number(b: *const u8, n: usize) -> Planned;
     pub fn kiwimound_compare(a: *const u8, m: usize, b: *const u8, n: usize) -> Compared;
+    pub fn kiwimound_causes(b: *const u8, n: usize, out: *mut u8, size: usize) -> CausesAnswer;
     pub fn kiwimound_shortfall(
         b: *const u8,
         n: usize,

@@ -4,7 +4,9 @@
 mod foreign;
 mod records;
 
-pub use foreign::{BoundsAnswer, Compared, Part, Planned, Reading, ShortfallAnswer, Written};
+pub use foreign::{
+    BoundsAnswer, CausesAnswer, Compared, Part, Planned, Reading, ShortfallAnswer, Written,
+};
 pub use records::{Ration, Records};
 
 /// Plans a sheet, with a plan buffer lent.
@@ -37,6 +39,12 @@ pub fn plan_number(sheet: &[u8]) -> Planned {
 /// Compares the days of two sheets.
 pub fn compare(one: &[u8], other: &[u8]) -> Compared {
     unsafe { foreign::kiwimound_compare(one.as_ptr(), one.len(), other.as_ptr(), other.len()) }
+}
+
+/// Lists why each stretch of a sheet's plan ends where it does.
+pub fn causes(sheet: &[u8], out: &mut [u8]) -> CausesAnswer {
+    let (listing, size) = (out.as_mut_ptr(), out.len());
+    unsafe { foreign::kiwimound_causes(sheet.as_ptr(), sheet.len(), listing, size) }
 }
 
 /// The shortfall of the marked slots.

@@ -1,10 +1,11 @@
-//! Sheets of all kinds, well-formed or not, to compare answers on. A kind's share of the run is set by what the reference
-//! needs for it: a full sheet that is planned takes it most of a second.
+//! Sheets of all kinds, well-formed or not, to compare answers on. A kind's share of the run is set by what the
+//! reference needs for it: a full sheet that is planned takes it most of a second.
 
 use reference::damage::{damage_meal, damaged_sheet};
 use reference::draws::Draws;
 use reference::generate::{
-    any_sheet, full_sheet, held_full_sheet, held_sheet, tight_sheet, Sizes, FULL, MIDDLE, SMALL,
+    any_sheet, full_sheet, held_full_sheet, held_sheet, jagged_sheet, tight_sheet, Sizes, FULL,
+    MIDDLE, SMALL,
 };
 use reference::sheet::{line_text, FIELD, LINE};
 
@@ -15,18 +16,21 @@ pub struct Kind {
     pub make: fn(&mut Draws) -> Vec<u8>,
 }
 
-pub const KINDS: [Kind; 17] = [
+pub const KINDS: [Kind; 20] = [
     kind("full, planned or held", 4, |d| full_sheet(d).text()),
     kind("full, held", 60, |d| held_full_sheet(d).text()),
+    kind("causes with long sets", 10, long_sets),
     kind("any size", 40, |d| any_sheet(d, FULL).text()),
     kind("any size, tight", 40, |d| tight_sheet(d, FULL).text()),
+    kind("any size, jagged", 40, |d| jagged_sheet(d, FULL).text()),
     kind("any size, held", 200, |d| held_sheet(d, FULL).text()),
     kind("any size, damaged", 200, |d| damaged_sheet(d, FULL)),
     kind("middle", 400, |d| any_sheet(d, MIDDLE).text()),
     kind("middle, tight", 300, |d| tight_sheet(d, MIDDLE).text()),
+    kind("middle, jagged", 150, |d| jagged_sheet(d, MIDDLE).text()),
     kind("middle, held", 600, |d| held_sheet(d, MIDDLE).text()),
     kind("middle, damaged", 800, |d| damaged_sheet(d, MIDDLE)),
-    kind("small", 2000, |d| any_sheet(d, SMALL).text()),
+    kind("small", 1800, |d| any_sheet(d, SMALL).text()),
     kind("small, tight", 1500, |d| tight_sheet(d, SMALL).text()),
     kind("small, held", 1000, |d| held_sheet(d, SMALL).text()),
     kind("one field changed", 1200, one_field),
@@ -63,6 +67,39 @@ fn some_limits(draws: &mut Draws) -> Sizes {
     } else {
         SMALL
     }
+}
+
+/// A sheet whose causes have long sets, so that their listing is near the longest or cut. Each blower has a ration in
+/// slot 1 and in every second slot late in the day, fewer in the last of these, and as many rations have the whole day.
+/// These feed the slots after slot 1, all of which are in the set of every busy stretch. Some windows and volumes are
+/// then changed, so that sets differ; the sheet may be held.
+pub fn long_sets(draws: &mut Draws) -> Vec<u8> {
+    let blowers = draws.between(2, 8);
+    let stops = 64 / blowers - 2 - draws.below(4);
+    let volume = 95 - 2 * stops - draws.below(6);
+    let own = |slot: u32| [slot, slot, 1];
+    let mut windows = vec![own(1); blowers as usize];
+    windows.extend(vec![[1, 96, volume]; blowers as usize]);
+    for stop in 1..=stops {
+        let some = if stop == stops {
+            draws.between(1, blowers)
+        } else {
+            blowers
+        };
+        windows.extend(vec![own(volume + 1 + 2 * stop); some as usize]);
+    }
+    let rarity = draws.between(8, 64);
+    let head = [96, blowers, draws.between(0, 12), windows.len() as u32];
+    let mut bytes = line_text(head).to_vec();
+    for ([mut first, mut last, mut volume], tank) in windows.into_iter().zip(1..) {
+        if draws.one_in(rarity) {
+            first = first.saturating_sub(draws.below(3)).max(1);
+            last = (last + draws.below(3)).min(96);
+            volume = (volume + draws.below(2)).min(last - first + 1);
+        }
+        bytes.extend(line_text([tank, first, last, volume]));
+    }
+    bytes
 }
 
 /// A well-formed sheet with one field of one line set: to a number at a limit, to one
@@ -148,6 +185,7 @@ fn random_bytes(draws: &mut Draws) -> Vec<u8> {
 #[cfg(test)]
 mod tests {
     use super::*;
+    use reference::causes::{entries, listing};
     use reference::sheet::read;
 
     #[test]
@@ -156,6 +194,21 @@ mod tests {
         assert_eq!(all, 10_000);
         assert_eq!(kind_at(0), 0);
         assert_eq!(kind_at(9_999), KINDS.len() - 1);
+    }
+
+    #[test]
+    fn long_sets_make_listings_near_the_longest_or_cut() {
+        let draws = &mut Draws::new(1);
+        let (mut near, mut cut) = (0, 0);
+        for _ in 0..40 {
+            let sheet = read(&long_sets(draws)).expect("accepted");
+            if let Ok(entries) = entries(&sheet) {
+                let (text, is_cut) = listing(&entries);
+                near += u32::from(!is_cut && text.len() > 40_000);
+                cut += u32::from(is_cut);
+            }
+        }
+        assert!(near >= 8 && cut >= 8, "{near} near, {cut} cut");
     }
 
     #[test]
