@@ -2,8 +2,8 @@
 //
 // The method goes from the last blower down to the first, and each blower from slot 1 on: that is the order of the
 // listing, so each entry is written when its stretch ends. Whether a blower can go on as it is, is asked of `placing`,
-// which says why where it can't; it then changes over by `stretches::keep`, the step by which a plan is settled. For the
-// layer above: the functions ask for rations in range.
+// which says why where it can't; it then changes over by `stretches::keep`, the step by which a plan is settled. For
+// the layer above: the functions ask for rations in range.
 mod days;
 mod settling;
 

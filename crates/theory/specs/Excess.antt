@@ -1,6 +1,6 @@
 -- The sets of greatest excess (lows less possible volume) have a least one among them too: by the exchange, what is
--- shown of highs. Where a low is above the width of its slot there is no exchange: the set is then found with the low at
--- that width. Assumes nothing.
+-- shown of highs. Where a low is above the width of its slot there is no exchange: the set is then found with the low
+-- at that width. Assumes nothing.
 use Prim.Native.Nat.{ℕ, _+_, _-_, _≤_, _<_}
 use mathlib.Core.Path.{_≡_, refl, ap, _∙_}
 use mathlib.Core.Logic.{_≢_}
