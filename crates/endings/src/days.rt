@@ -4,7 +4,6 @@ use crate::settling;
 use placing::begin;
 use placing::held;
 use placing::windows;
-ghost use mathlib.Core.Path.{_≡_};
 ghost use Prim.Native.Nat.{_≤_};
 ghost use lib.ListN.{length, replicate};
 ghost use Rattle.placing.specs.Rations.{Rations, demandsFrom};

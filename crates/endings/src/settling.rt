@@ -1,5 +1,4 @@
 // The method, slot by slot, with the cause of each stretch's end.
-ghost use mathlib.Core.Path.{_≡_};
 ghost use mathlib.Core.Bool.{false};
 ghost use Prim.Native.Nat.{_≤_, _<_};
 ghost use Rattle.stretches.specs.Settling.{SomeSlot};

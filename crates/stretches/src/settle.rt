@@ -1,5 +1,4 @@
 // The method, slot by slot.
-ghost use mathlib.Core.Path.{_≡_};
 ghost use Prim.Native.Nat.{_≤_, _<_};
 ghost use Rattle.stretches.specs.Settling.{SomeSlot, SomeDay, Kept, Stepped, Settled, AllSettled};
 use placing::steps;
