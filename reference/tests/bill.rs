@@ -1,26 +1,19 @@
 //! The day's power bill (request 103): days settled by hand, and the charge of many days
 //! once more, slot by slot.
 
+mod written;
+
 use reference::bill::{cents, charge};
 use reference::draws::Draws;
 use reference::generate::{any_sheet, tight_sheet, FULL, MIDDLE};
 use reference::listing::{plan, program, PLACING_BUFFER, PLAN_BUFFER};
 use reference::method::{self, stretches};
-use reference::sheet::{line_text, read, Sheet, LINE};
-
-/// A sheet from its lines, parted by strokes.
-fn sheet(lines: &str) -> Vec<u8> {
-    let line = |text: &str| {
-        let words = text.split_whitespace().map(|word| word.parse());
-        let numbers: Vec<u32> = words.map(|number| number.expect("a number")).collect();
-        line_text(numbers.try_into().expect("four numbers"))
-    };
-    lines.split('/').flat_map(line).collect()
-}
+use reference::sheet::{read, Sheet, LINE};
+use written::text;
 
 /// The day's charge in tenths of a cent, and the last line of its listing.
 fn check_bill(lines: &str, tenths: u32, hundreds: u32, remaining: u32) {
-    let bytes = sheet(lines);
+    let bytes = text(lines);
     let plan = method::plan(&read(&bytes).expect("accepted")).expect("planned");
     assert_eq!(plan.charge, tenths, "{lines}");
     let output = program(&bytes);
@@ -42,7 +35,7 @@ fn an_idle_day_costs_nothing() {
     1    1    3    0
     0    0    0    0
 ";
-    assert_eq!(program(&sheet("3 1 4 0")), listing.as_bytes());
+    assert_eq!(program(&text("3 1 4 0")), listing.as_bytes());
     check_bill("96 8 200 0", 0, 0, 0);
 }
 
@@ -59,7 +52,7 @@ fn a_start_costs_the_rate_of_its_first_on_slot() {
     0   20    0    0
 ";
     let day = "25 1 3 2 / 1 1 1 1 / 2 25 25 1";
-    assert_eq!(program(&sheet(day)), listing.as_bytes());
+    assert_eq!(program(&text(day)), listing.as_bytes());
     check_bill(day, 196, 0, 20);
     // In slot 24, the last of hour 5: 8 × 18.
     check_bill("25 1 3 2 / 1 1 1 1 / 2 24 24 1", 144, 0, 14);
@@ -84,7 +77,7 @@ fn idle_slots_that_are_on_cost_their_rate() {
    28    1    2    2
     0   38    0    0
 ";
-    assert_eq!(program(&sheet(day)), listing.as_bytes());
+    assert_eq!(program(&text(day)), listing.as_bytes());
     check_bill(day, 376, 0, 38);
 }
 
@@ -137,7 +130,7 @@ fn hundreds_of_cents() {
 #[test]
 fn the_plan_buffer_grows_by_a_line() {
     assert_eq!(PLAN_BUFFER, 5 + 21 * (2 + 2 * 8 * 96));
-    let day = sheet("3 1 4 0");
+    let day = text("3 1 4 0");
     let lent = vec![7; PLAN_BUFFER + 1];
     for (size, answer) in [
         (32_282, (10, 0, 0)),

@@ -1,6 +1,8 @@
 //! A cause for every stretch (request 105): days settled by hand, long listings and their
 //! cut, and the checks of the call.
 
+mod written;
+
 use reference::cases::causes::long_day;
 use reference::causes::{causes, entries, listing, why, Cause, Entry, CAUSES_BUFFER};
 use reference::damage::damaged_sheet;
@@ -9,28 +11,19 @@ use reference::generate::{any_sheet, MIDDLE};
 use reference::listing::program;
 use reference::placing::shown_set;
 use reference::sheet::{line_text, read, LINE};
-
-/// A sheet, or a listing, from its lines, parted by strokes.
-fn lines(text: &str) -> Vec<u8> {
-    let line = |text: &str| {
-        let words = text.split_whitespace().map(|word| word.parse());
-        let numbers: Vec<u32> = words.map(|number| number.expect("a number")).collect();
-        line_text(numbers.try_into().expect("four numbers"))
-    };
-    text.split('/').flat_map(line).collect()
-}
+use written::text;
 
 /// A listing from its entries: the entry's line, a colon and the slots of its set.
 fn entry_lines(entries: &[&str]) -> Vec<u8> {
-    let mut text = Vec::new();
+    let mut listing = Vec::new();
     for entry in entries {
         let (line, slots) = entry.split_once(':').expect("a line and its slots");
-        text.extend(lines(line));
+        listing.extend(text(line));
         for slot in slots.split_whitespace() {
-            text.extend(lines(&format!("{slot} 0 0 0")));
+            listing.extend(text(&format!("{slot} 0 0 0")));
         }
     }
-    text
+    listing
 }
 
 /// What the call answers with this much lent, and the bytes it wrote; the others keep
@@ -46,13 +39,13 @@ fn called(sheet: &[u8], lent: usize) -> ((u32, u32, usize, bool), Vec<u8>) {
 /// The call and the program give these entries.
 fn check(sheet: &str, entries: &[&str]) {
     let expected = entry_lines(entries);
-    let (answer, text) = called(&lines(sheet), CAUSES_BUFFER);
+    let (answer, written) = called(&text(sheet), CAUSES_BUFFER);
     assert_eq!(
-        String::from_utf8_lossy(&text),
+        String::from_utf8_lossy(&written),
         String::from_utf8_lossy(&expected)
     );
     assert_eq!(answer, (0, 0, expected.len(), false));
-    assert_eq!(why(&lines(sheet)), expected);
+    assert_eq!(why(&text(sheet)), expected);
 }
 
 /// Counts 1, 1, 2, 1.
@@ -279,20 +272,20 @@ fn the_first_entry_that_does_not_fit_ends_the_listing() {
 /// Checks 1 to 9 and 13 of the sheet, then 10, then 12; nothing is written for any of them.
 #[test]
 fn the_checks_in_their_order() {
-    let held = lines("3 1 1 2 / 1 1 2 2 / 2 2 3 2");
-    let good = lines("3 1 1 1 / 1 1 3 1");
+    let held = text("3 1 1 2 / 1 1 2 2 / 2 2 3 2");
+    let good = text("3 1 1 1 / 1 1 3 1");
     for (sheet, number, line) in [
         (vec![], 1, 0),
         (good[..20].to_vec(), 1, 0),
         (b"    3    1    1   00\n".to_vec(), 2, 1),
-        (lines("97 1 1 0"), 3, 1),
-        (lines("3 9 1 0"), 4, 1),
-        (lines("3 1 201 0"), 5, 1),
-        (lines("3 1 1 1"), 6, 1),
-        (lines("3 1 1 1 / 0 1 3 1"), 7, 2),
-        (lines("3 1 1 1 / 1 1 4 1"), 8, 2),
-        (lines("3 1 1 1 / 1 1 3 4"), 9, 2),
-        (lines("3 1 1 2 / 1 1 2 2 / 1 2 3 2"), 13, 3),
+        (text("97 1 1 0"), 3, 1),
+        (text("3 9 1 0"), 4, 1),
+        (text("3 1 201 0"), 5, 1),
+        (text("3 1 1 1"), 6, 1),
+        (text("3 1 1 1 / 0 1 3 1"), 7, 2),
+        (text("3 1 1 1 / 1 1 4 1"), 8, 2),
+        (text("3 1 1 1 / 1 1 3 4"), 9, 2),
+        (text("3 1 1 2 / 1 1 2 2 / 1 2 3 2"), 13, 3),
     ] {
         for lent in [0, 26, CAUSES_BUFFER - 1, CAUSES_BUFFER, CAUSES_BUFFER + 1] {
             assert_eq!(called(&sheet, lent).0, (number, line, 0, false));

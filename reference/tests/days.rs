@@ -1,24 +1,15 @@
 //! The days that document 01 names, and two more that tell the method from others.
 
+mod written;
+
 use reference::listing::{compare, plan, program, PLACING_BUFFER, PLAN_BUFFER};
 use reference::method::{self, Plan, State};
 use reference::placing::{bounds, shortfall, shown_set};
-use reference::sheet::{line_text, read};
-
-/// A sheet from its lines as document 01 writes them: head / ration / ..
-fn sheet(lines: &str) -> Vec<u8> {
-    let line = |text: &str| {
-        let numbers: Vec<u32> = text
-            .split_whitespace()
-            .map(|word| word.parse().expect("a number"))
-            .collect();
-        line_text(numbers.try_into().expect("four numbers"))
-    };
-    lines.split('/').flat_map(line).collect()
-}
+use reference::sheet::read;
+use written::text;
 
 fn planned(lines: &str) -> Plan {
-    method::plan(&read(&sheet(lines)).expect("accepted")).expect("planned")
+    method::plan(&read(&text(lines)).expect("accepted")).expect("planned")
 }
 
 fn tanks_by_slot(plan: &Plan) -> Vec<Vec<u32>> {
@@ -52,7 +43,7 @@ const HELD_LISTING: &str = "HELD
 
 #[test]
 fn the_listing_of_document_01() {
-    assert_eq!(program(&sheet(FIRST)), FIRST_LISTING.as_bytes());
+    assert_eq!(program(&text(FIRST)), FIRST_LISTING.as_bytes());
     let plan = planned(FIRST);
     assert_eq!(plan.counts, [1, 1, 2, 1]);
     assert_eq!(plan.energy, 9);
@@ -60,22 +51,22 @@ fn the_listing_of_document_01() {
 
 #[test]
 fn a_day_that_is_held() {
-    assert_eq!(program(&sheet(HELD)), HELD_LISTING.as_bytes());
-    let set = shown_set(&read(&sheet(HELD)).expect("accepted"));
+    assert_eq!(program(&text(HELD)), HELD_LISTING.as_bytes());
+    let set = shown_set(&read(&text(HELD)).expect("accepted"));
     assert_eq!(set, Some(vec![false, true, false]));
 }
 
 #[test]
 fn shortfalls() {
-    assert_eq!(shortfall(&sheet(HELD), &[1, 0, 0]), (0, 0, 0));
-    assert_eq!(shortfall(&sheet(HELD), &[1, 1, 1]), (0, 0, 1));
-    assert_eq!(shortfall(&sheet(HELD), &[0, 1, 0]), (0, 0, 1));
-    assert_eq!(shortfall(&sheet(HELD), &[0, 0, 0]), (0, 0, 0));
-    assert_eq!(shortfall(&sheet(FIRST), &[0, 0, 0, 1]), (0, 0, -2));
-    assert_eq!(shortfall(&sheet(FIRST), &[0, 0, 0]), (11, 0, 0));
-    assert_eq!(shortfall(&sheet(FIRST), &[0, 0, 0, 0, 0]), (11, 0, 0));
-    assert_eq!(shortfall(&sheet(FIRST), &[0, 2, 0, 0]), (11, 0, 0));
-    assert_eq!(shortfall(&sheet("4 2 2 1"), &[9]), (6, 1, 0));
+    assert_eq!(shortfall(&text(HELD), &[1, 0, 0]), (0, 0, 0));
+    assert_eq!(shortfall(&text(HELD), &[1, 1, 1]), (0, 0, 1));
+    assert_eq!(shortfall(&text(HELD), &[0, 1, 0]), (0, 0, 1));
+    assert_eq!(shortfall(&text(HELD), &[0, 0, 0]), (0, 0, 0));
+    assert_eq!(shortfall(&text(FIRST), &[0, 0, 0, 1]), (0, 0, -2));
+    assert_eq!(shortfall(&text(FIRST), &[0, 0, 0]), (11, 0, 0));
+    assert_eq!(shortfall(&text(FIRST), &[0, 0, 0, 0, 0]), (11, 0, 0));
+    assert_eq!(shortfall(&text(FIRST), &[0, 2, 0, 0]), (11, 0, 0));
+    assert_eq!(shortfall(&text("4 2 2 1"), &[9]), (6, 1, 0));
 }
 
 #[test]
@@ -111,15 +102,15 @@ fn idle_comes_first() {
         .collect();
     assert_eq!(ends, [(1, 2, State::Off), (3, 3, State::Busy)]);
     assert_eq!(plan.energy, 2);
-    assert_eq!(bounds(&sheet(day), &[1, 1, 0], &[1, 1, 1]), (0, 0, false));
-    assert_eq!(bounds(&sheet(day), &[0, 1, 0], &[0, 0, 1]), (0, 0, false));
-    assert_eq!(bounds(&sheet(day), &[0, 1, 0], &[0, 9, 0]), (0, 0, true));
+    assert_eq!(bounds(&text(day), &[1, 1, 0], &[1, 1, 1]), (0, 0, false));
+    assert_eq!(bounds(&text(day), &[0, 1, 0], &[0, 0, 1]), (0, 0, false));
+    assert_eq!(bounds(&text(day), &[0, 1, 0], &[0, 9, 0]), (0, 0, true));
     let most = u32::MAX;
-    assert_eq!(bounds(&sheet(day), &[0, 2, 0], &[most; 3]), (0, 0, false));
-    assert_eq!(bounds(&sheet(day), &[most; 3], &[most; 3]), (0, 0, false));
-    assert_eq!(bounds(&sheet(day), &[0; 2], &[1; 3]), (11, 0, false));
-    assert_eq!(bounds(&sheet(day), &[0; 3], &[1; 4]), (11, 0, false));
-    assert_eq!(bounds(&sheet(HELD), &[0; 3], &[1; 3]), (0, 0, false));
+    assert_eq!(bounds(&text(day), &[0, 2, 0], &[most; 3]), (0, 0, false));
+    assert_eq!(bounds(&text(day), &[most; 3], &[most; 3]), (0, 0, false));
+    assert_eq!(bounds(&text(day), &[0; 2], &[1; 3]), (11, 0, false));
+    assert_eq!(bounds(&text(day), &[0; 3], &[1; 4]), (11, 0, false));
+    assert_eq!(bounds(&text(HELD), &[0; 3], &[1; 3]), (0, 0, false));
     assert_eq!(bounds(b"", &[0; 3], &[1; 3]), (1, 0, false));
 }
 
@@ -136,7 +127,7 @@ fn sizes_beyond_the_limits() {
         ("4 9 2 0", "HELD\n    4    1    0    0\n"),
         ("4 2 201 0", "HELD\n    5    1    0    0\n"),
     ] {
-        assert_eq!(program(&sheet(day)), output.as_bytes());
+        assert_eq!(program(&text(day)), output.as_bytes());
     }
     assert_eq!(program(b""), b"HELD\n    1    0    0    0\n");
 }
@@ -160,7 +151,7 @@ fn buffers() -> (Vec<u8>, Vec<u8>) {
 #[test]
 fn planning_settles_every_lent_byte() {
     let (mut listing, mut placing) = buffers();
-    let answer = plan(&sheet(FIRST), Some(&mut listing), Some(&mut placing));
+    let answer = plan(&text(FIRST), Some(&mut listing), Some(&mut placing));
     assert_eq!(answer, (0, 0, FIRST_LISTING.len()));
     let (written, kept) = listing.split_at(FIRST_LISTING.len());
     assert_eq!(written, FIRST_LISTING.as_bytes());
@@ -171,16 +162,16 @@ fn planning_settles_every_lent_byte() {
     assert_eq!(zeros.count(), PLACING_BUFFER - 5);
     assert_eq!(placing[PLACING_BUFFER..], [9; 5]);
 
-    assert_eq!(plan(&sheet(FIRST), None, None), (0, 0, 0));
+    assert_eq!(plan(&text(FIRST), None, None), (0, 0, 0));
     let (_, mut alone) = buffers();
-    assert_eq!(plan(&sheet(FIRST), None, Some(&mut alone)), (0, 0, 0));
+    assert_eq!(plan(&text(FIRST), None, Some(&mut alone)), (0, 0, 0));
     assert_eq!(alone, placing);
 }
 
 #[test]
 fn a_held_sheet_settles_every_lent_byte() {
     let (mut listing, mut placing) = buffers();
-    let answer = plan(&sheet(HELD), Some(&mut listing), Some(&mut placing));
+    let answer = plan(&text(HELD), Some(&mut listing), Some(&mut placing));
     assert_eq!(answer, (12, 0, HELD_LISTING.len()));
     let (written, kept) = listing.split_at(HELD_LISTING.len());
     assert_eq!(written, HELD_LISTING.as_bytes());
@@ -189,17 +180,17 @@ fn a_held_sheet_settles_every_lent_byte() {
     assert_eq!(placing[PLACING_BUFFER..], [9; 5]);
 
     let (_, mut alone) = buffers();
-    assert_eq!(plan(&sheet(HELD), None, Some(&mut alone)), (12, 0, 0));
+    assert_eq!(plan(&text(HELD), None, Some(&mut alone)), (12, 0, 0));
     assert_eq!(alone, placing);
-    assert_eq!(plan(&sheet(HELD), None, None), (12, 0, 0));
+    assert_eq!(plan(&text(HELD), None, None), (12, 0, 0));
 }
 
 #[test]
 fn a_refusal_changes_no_lent_byte() {
     let (listing, placing) = buffers();
     for (day, refusal) in [
-        (sheet("97 2 2 0"), (3, 1, 0)),
-        (sheet("4 2 2 1 / 1 1 2 3"), (9, 2, 0)),
+        (text("97 2 2 0"), (3, 1, 0)),
+        (text("4 2 2 1 / 1 1 2 3"), (9, 2, 0)),
         (vec![], (1, 0, 0)),
     ] {
         let (mut one, mut other) = buffers();
@@ -208,7 +199,7 @@ fn a_refusal_changes_no_lent_byte() {
         assert_eq!(plan(&day, Some(&mut one[..3]), None), refusal);
         assert_eq!((one, other), (listing.clone(), placing.clone()));
     }
-    for day in [sheet(FIRST), sheet(HELD)] {
+    for day in [text(FIRST), text(HELD)] {
         let (mut one, mut other) = buffers();
         let short_plan = Some(&mut one[..PLAN_BUFFER - 1]);
         assert_eq!(plan(&day, short_plan, Some(&mut other)), (10, 0, 0));
@@ -221,15 +212,15 @@ fn a_refusal_changes_no_lent_byte() {
 
 #[test]
 fn comparisons() {
-    let first = sheet(FIRST);
+    let first = text(FIRST);
     assert_eq!(compare(&first, &first), (0, 0, true));
     // Other tanks, blowers and wake cost, and the same counts.
-    let same = sheet("4 3 9 3 / 7 1 2 2 / 8 1 4 2 / 9 2 3 1");
+    let same = text("4 3 9 3 / 7 1 2 2 / 8 1 4 2 / 9 2 3 1");
     assert_eq!(compare(&first, &same), (0, 0, true));
-    assert_eq!(compare(&sheet("3 1 1 0"), &sheet("4 1 1 0")), (0, 0, false));
-    assert_eq!(compare(&first, &sheet("4 2 2 0")), (0, 0, false));
-    assert_eq!(compare(&sheet(HELD), b""), (12, 0, false));
-    assert_eq!(compare(b"", &sheet(HELD)), (1, 0, false));
-    assert_eq!(compare(&first, &sheet(HELD)), (12, 0, false));
-    assert_eq!(compare(&first, &sheet("4 2 2 1 / 1 1 2 3")), (9, 2, false));
+    assert_eq!(compare(&text("3 1 1 0"), &text("4 1 1 0")), (0, 0, false));
+    assert_eq!(compare(&first, &text("4 2 2 0")), (0, 0, false));
+    assert_eq!(compare(&text(HELD), b""), (12, 0, false));
+    assert_eq!(compare(b"", &text(HELD)), (1, 0, false));
+    assert_eq!(compare(&first, &text(HELD)), (12, 0, false));
+    assert_eq!(compare(&first, &text("4 2 2 1 / 1 1 2 3")), (9, 2, false));
 }

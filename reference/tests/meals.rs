@@ -1,24 +1,13 @@
 //! Several meals for one tank (request 102): days settled by hand, check 13 among the
 //! checks of a line, and the look-up of all lines of a tank.
 
+mod written;
+
 use reference::draws::Draws;
 use reference::listing::{compare, plan, program, PLACING_BUFFER, PLAN_BUFFER};
 use reference::placing::{bounds, shortfall};
 use reference::sheet::{find, line_text, read, write, Refusal, LINE};
-
-/// A sheet from its lines, parted by strokes.
-fn sheet(lines: &str) -> Vec<u8> {
-    numbers(lines).into_iter().flat_map(line_text).collect()
-}
-
-fn numbers(lines: &str) -> Vec<[u32; 4]> {
-    let line = |text: &str| {
-        let words = text.split_whitespace().map(|word| word.parse());
-        let numbers: Vec<u32> = words.map(|number| number.expect("a number")).collect();
-        numbers.try_into().expect("four numbers")
-    };
-    lines.split('/').map(line).collect()
-}
+use written::text;
 
 fn refusal(number: u32, line: u32) -> Result<(), Refusal> {
     Err(Refusal { number, line })
@@ -26,7 +15,7 @@ fn refusal(number: u32, line: u32) -> Result<(), Refusal> {
 
 /// What reading a sheet comes to.
 fn outcome(lines: &str) -> Result<(), Refusal> {
-    read(&sheet(lines)).map(|_| ())
+    read(&text(lines)).map(|_| ())
 }
 
 /// Slots 1 to 4 need a second blower once, as late as can be; the evening meal takes the
@@ -51,7 +40,7 @@ fn a_morning_and_an_evening_meal() {
     0   29    0    0
 ";
     let day = "10 2 3 3 / 1 1 3 2 / 1 8 10 2 / 2 1 4 3";
-    assert_eq!(program(&sheet(day)), listing.as_bytes());
+    assert_eq!(program(&text(day)), listing.as_bytes());
 }
 
 /// One blower does. The evening meal is asked before tank 2, so it is fed in slot 6, and
@@ -73,7 +62,7 @@ fn parts_count_within_the_meal() {
     0   16    0    0
 ";
     let day = "8 2 2 3 / 1 1 3 2 / 1 6 8 2 / 2 2 7 3";
-    assert_eq!(program(&sheet(day)), listing.as_bytes());
+    assert_eq!(program(&text(day)), listing.as_bytes());
 }
 
 /// The first meal and tank 6 want three feedings of the slots 1 and 2. One ration with
@@ -81,12 +70,12 @@ fn parts_count_within_the_meal() {
 #[test]
 fn soundness_is_read_per_meal() {
     let held = "HELD\n   12    2    3    2\n    1    0    0    0\n    2    0    0    0\n";
-    let day = sheet("4 1 1 3 / 5 1 2 2 / 5 3 4 1 / 6 1 2 1");
+    let day = text("4 1 1 3 / 5 1 2 2 / 5 3 4 1 / 6 1 2 1");
     assert_eq!(program(&day), held.as_bytes());
     assert_eq!(shortfall(&day, &[1, 1, 0, 0]), (0, 0, 1));
     assert_eq!(shortfall(&day, &[1, 1, 1, 1]), (0, 0, 0));
     assert_eq!(bounds(&day, &[0; 4], &[1; 4]), (0, 0, false));
-    let one_ration = sheet("4 1 1 2 / 5 1 4 3 / 6 1 2 1");
+    let one_ration = text("4 1 1 2 / 5 1 4 3 / 6 1 2 1");
     assert!(program(&one_ration).starts_with(b"PLAN\n"));
 }
 
@@ -147,14 +136,14 @@ fn check_13_comes_last_on_its_line_and_before_the_next_line() {
 /// Number 13 of every call: no lent byte changes, and it comes before 10, 11 and 12.
 #[test]
 fn every_call_refuses_by_13() {
-    let day = sheet("4 1 1 2 / 5 1 2 2 / 5 2 4 1");
+    let day = text("4 1 1 2 / 5 1 2 2 / 5 2 4 1");
     assert_eq!(program(&day), b"HELD\n   13    3    0    0\n");
     assert!(find(&day, 5).is_empty());
     assert_eq!(shortfall(&day, &[0, 0, 0, 1]), (13, 3, 0));
     assert_eq!(shortfall(&day, &[2]), (13, 3, 0));
     assert_eq!(bounds(&day, &[0; 4], &[1; 4]), (13, 3, false));
     assert_eq!(bounds(&day, &[], &[]), (13, 3, false));
-    let good = sheet("4 1 1 1 / 5 1 2 2");
+    let good = text("4 1 1 1 / 5 1 2 2");
     assert_eq!(compare(&good, &day), (13, 3, false));
     assert_eq!(compare(&day, b""), (13, 3, false));
 
@@ -176,7 +165,7 @@ fn every_call_refuses_by_13() {
 #[test]
 fn all_lines_of_a_tank_are_one_part() {
     let day = "9 1 1 6 / 2 1 9 1 / 5 1 2 1 / 5 3 5 1 / 5 7 9 1 / 8 1 1 1 / 8 9 9 1";
-    let bytes = sheet(day);
+    let bytes = text(day);
     let part = |tank| find(&bytes, tank);
     assert_eq!(part(2), &bytes[LINE..2 * LINE]);
     assert_eq!(part(5), &bytes[2 * LINE..5 * LINE]);
@@ -186,7 +175,7 @@ fn all_lines_of_a_tank_are_one_part() {
         assert!(part(absent).is_empty());
     }
     // A sheet that planning holds is looked up all the same.
-    let held = sheet("2 1 1 3 / 5 1 1 1 / 5 2 2 1 / 6 1 1 1");
+    let held = text("2 1 1 3 / 5 1 1 1 / 5 2 2 1 / 6 1 1 1");
     assert_eq!(find(&held, 5), &held[LINE..3 * LINE]);
 }
 
