@@ -1,43 +1,37 @@
 -- What writing the entries requires and ensures. Definitions only. Assumes nothing.
 use mathlib.Core.Path.{_≡_}
 use mathlib.Core.List.{List, [], _∷_, _++_}
-use Prim.Native.Nat.{ℕ, _+_, _*_, _≤_}
+use Prim.Native.Nat.{ℕ, _≤_}
 use lib.ListN.{length}
-use Rattle.common.specs.Lists.{count}
 use Rattle.common.specs.Buffers.{over, putAt}
-use Rattle.line.specs.Layout.{lineBytes}
 use Rattle.checks.specs.Limits.{maxSlots}
-use Rattle.placing.specs.declared.Cause.{Cause}
-use Rattle.placing.specs.CauseCalls.{slotsOf, obstacleOf}
+use Rattle.placing.specs.CauseCalls.{numberOf, obstacleOf}
 use Rattle.method.specs.Endings.{EndedStretch}
 use Rattle.plan_lines.specs.Sizes.{causesBytes}
-use Rattle.plan_lines.specs.Inputs.{setOf}
+use Rattle.plan_lines.specs.Lines.{Line, line}
 use Rattle.plan_lines.specs.Text.{writeLines}
+use Rattle.plan_lines.specs.Putting.{Room}
 use Rattle.cause_lines.specs.declared.CausedStretch.{CausedStretch}
 use Rattle.cause_lines.specs.declared.Extent.{Extent}
-use Rattle.cause_lines.specs.declared.Marks.{Marks}
+use Rattle.cause_lines.specs.declared.SlotWords.{SlotWords}
 use Rattle.cause_lines.specs.Entries.{entryLines, causesText, isCut}
+use Rattle.cause_lines.specs.SlotCalls.{bitLines}
 
 -- the entry of a stretch as code has it, on a day of so many slots
 abbrev pub textOf : (slots : ℕ) → CausedStretch → List ℕ
 textOf slots s = writeLines (entryLines (s .blower) (s .last) (obstacleOf slots (s .cause)))
 
--- the marks of a cause's slots, and their number
-pub record MarksOf (r : Marks) (c : Cause) (slots : ℕ) : Type 0 where
-  pub long : length (r .marks) ≡ maxSlots
-  pub set : setOf slots (r .marks) ≡ slotsOf slots c
-  pub number : r .count ≡ count (slotsOf slots c)
+-- the lines of an entry as `put_entry` has it: the first, and one for each bit of the words
+abbrev pub linesWith : CausedStretch → SlotWords → (n : ℕ) → List Line
+linesWith s w n = line (s .blower) (s .last) (numberOf (s .cause)) n ∷ (bitLines 0 (w .first) ++ bitLines 64 (w .second))
 
-pub record CanPutEntry (out : List ℕ) (at slots : ℕ) (s : CausedStretch) (marks : List ℕ) (n : ℕ) : Type 0 where
-  pub day : slots ≤ maxSlots
+pub record CanPutEntry (out : List ℕ) (at : ℕ) (s : CausedStretch) (w : SlotWords) (n : ℕ) : Type 0 where
   pub last : s .last ≤ maxSlots
-  pub long : length marks ≡ maxSlots
-  pub set : setOf slots marks ≡ slotsOf slots (s .cause)
-  pub number : n ≡ count (slotsOf slots (s .cause))
-  pub room : at + lineBytes * (n + 1) ≤ length out
+  pub few : n ≤ maxSlots
+  pub room : Room (linesWith s w n) at out
 
-pub record EntryPut (at slots : ℕ) (s : CausedStretch) (old new : List ℕ) : Type 0 where
-  pub bytes : new ≡ putAt at (textOf slots s) old
+pub record EntryPut (at : ℕ) (s : CausedStretch) (w : SlotWords) (n : ℕ) (old new : List ℕ) : Type 0 where
+  pub bytes : new ≡ putAt at (writeLines (linesWith s w n)) old
 
 -- the listing of these stretches is at the front of the buffer that was `old`, and x says how long it is and whether it
 -- was cut

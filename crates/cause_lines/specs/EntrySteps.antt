@@ -1,162 +1,124 @@
 -- How an entry is written, and how the listing goes on by one. Assumes nothing.
-use mathlib.Core.Path.{_≡_, refl, sym, ap, _∙_, subst}
-use mathlib.Core.Bool.{Bool, true, false, cond}
-use mathlib.Core.List.{List, [], _∷_, _++_, map, append-nil}
+use mathlib.Core.Path.{_≡_, refl, sym, ap, ap₂, _∙_, subst}
+use mathlib.Core.Bool.{true, false}
+use mathlib.Core.List.{List, [], _∷_, _++_, map, map-append, append-nil}
 use Prim.Native.Nat.{ℕ, suc, _+_, _-_, _*_, _≤_, _<_}
-use native.Mathlib.Nat.{not-suc-le-zero}
 use native.Mathlib.Numerals.{add-one}
 use native.Mathlib.Omega.{arith}
-use lib.Dec.{eqb, ltb}
-use lib.ListN.{length, getD, set, take, replicate, length-set, length-replicate, length-map, length-take, length-append}
-use lib.Seq.{getD-set-same, getD-set-other, getD-take}
-use borrow.Author.Count.{below-more}
+use lib.Count.{ones}
+use lib.ListN.{length, length-map, length-append}
 use borrow.Author.Tests.{ltb-true, ltb-false, lt-ltb, le-ltb}
 use Rattle.common.specs.Lists.{count}
-use Rattle.common.specs.Bits.{bit}
 use Rattle.common.specs.ListLaws.{count-le-length, flatMap-append}
 use Rattle.common.specs.Buffers.{over, putAt}
 use Rattle.common.specs.BufferLaws.{putAt-append, length-putAt}
-use Rattle.theory.specs.Sums.{sum-none, sum-next}
-use Rattle.theory.specs.SumsOver.{one}
-use Rattle.theory.specs.Placing.{size}
 use Rattle.line.specs.Layout.{lineBytes}
 use Rattle.line.specs.Line.{writeLine}
-use Rattle.line.specs.LineLaws.{length-writeLine}
 use Rattle.checks.specs.Limits.{maxSlots}
-use Rattle.schedules.specs.Tabulate.{length-tab, tab-unique, count-tab, getD-map-below}
+use Rattle.schedules.specs.Tabulate.{length-tab}
 use Rattle.placing.specs.declared.Cause.{Cause}
-use Rattle.placing.specs.declared.Cause.the-variants.{LowAboveHigh}
-use Rattle.placing.specs.CauseCalls.{inWords, inCause, numberOf, slotsOf}
+use Rattle.placing.specs.CauseCalls.{inCause, numberOf, slotsOf, obstacleOf}
 use Rattle.method.specs.Endings.{EndedStretch}
 use Rattle.plan_lines.specs.Sizes.{causesBytes}
-use Rattle.plan_lines.specs.Lines.{line, memberLines}
+use Rattle.plan_lines.specs.Lines.{Line, line, membersFrom, memberLines}
 use Rattle.plan_lines.specs.Text.{writeLines}
-use Rattle.plan_lines.specs.Inputs.{setOf}
-use Rattle.plan_lines.specs.Putting.{Put, length-writeLines}
+use Rattle.plan_lines.specs.Putting.{Put, Putting, putting-begin, putting-more, putting-room, putting-end, put-one, length-writeLines}
+use Rattle.plan_lines.specs.SetBits.{setBits, length-setBits}
+use Rattle.plan_lines.specs.LengthLaws.{length-setBits-ones}
 use Rattle.listing.specs.Opening.{putAt-over}
-use Rattle.listing.specs.HeldSteps.{CanPutMembers, length-memberLines}
+use Rattle.listing.specs.HeldSteps.{length-memberLines}
 use Rattle.cause_lines.specs.declared.CausedStretch.{CausedStretch}
 use Rattle.cause_lines.specs.declared.Extent.{Extent}
-use Rattle.cause_lines.specs.declared.Marks.{Marks}
+use Rattle.cause_lines.specs.declared.SlotWords.{SlotWords}
 use Rattle.cause_lines.specs.Entries.{entryLines, entryText, entriesText, fitting, causesText, isCut}
 use Rattle.cause_lines.specs.FittingLaws.{length-both, length-one, fitting-all, cut-stays, more-cut}
-use Rattle.cause_lines.specs.EntryCalls.{textOf, MarksOf, CanPutEntry, EntryPut, Listing, SameStretch, CanAppend, Appended}
-
--- A slot in two words -----------------------------------------------------------
-
-pub in-first : (a b t : ℕ) → t < 64 → eqb (bit a t) 1 ≡ inWords a b t
-in-first a b t l = ap (λ x. eqb (cond x (bit a t) (bit b (t - 64))) 1) (sym (lt-ltb t 64 l))
-
-pub in-second : (a b t : ℕ) → 64 ≤ t → eqb (bit b (t - 64)) 1 ≡ inWords a b t
-in-second a b t l = ap (λ x. eqb (cond x (bit a t) (bit b (t - 64))) 1) (sym (le-ltb t 64 l))
-
-pub slot-in : (c : Cause) (t u : ℕ) → c ≡ LowAboveHigh u → eqb (t + 1) u ≡ inCause c t
-slot-in c t u e = ap (λ x. eqb x u) (add-one t) ∙ sym (ap (λ x. inCause x t) e)
-
-pub words-in : (c d : Cause) (t : ℕ) {r : Bool} → c ≡ d → r ≡ inCause d t → r ≡ inCause c t
-words-in c d t e q = q ∙ sym (ap (λ x. inCause x t) e)
-
--- The marks of a cause ----------------------------------------------------------
-
-one-above : (b : Bool) → ltb 0 (one b) ≡ b
-one-above true = lt-ltb 0 1 (omega arith)
-one-above false = le-ltb 0 0 (omega arith)
-
-pub record Marking (c : Cause) (slots t : ℕ) (marks : List ℕ) (n : ℕ) : Type 0 where
-  pub in-day : t ≤ slots
-  pub long : length marks ≡ maxSlots
-  pub marked : (u : ℕ) → u < t → getD marks u 0 ≡ one (inCause c u)
-  pub number : n ≡ size t (inCause c)
-  pub few : n ≤ t
-
-pub marking-begin : (c : Cause) (slots : ℕ) → Marking c slots 0 (replicate maxSlots 0) 0
-unfolding size
-marking-begin c slots =
-    record {
-      in-day = omega arith;
-      long = length-replicate {A = ℕ} maxSlots 0;
-      marked = λ u l. absurd (not-suc-le-zero l);
-      number = sym (sum-none (λ u. one (inCause c u)));
-      few = omega arith;
-    }
-
-one-le : (b : Bool) → one b ≤ 1
-one-le true = omega arith
-one-le false = omega arith
-
-pub mark-is : (b : Bool) → b ≡ true → 1 ≡ one b
-mark-is b e = ap one (sym e)
-
-pub mark-is-not : (b : Bool) → b ≡ false → 0 ≡ one b
-mark-is-not b e = ap one (sym e)
-
-pub marking-next : {c : Cause} {slots t n m : ℕ} {marks : List ℕ} → slots ≤ maxSlots → t < slots → Marking c slots t marks n → m ≡ one (inCause c t)
-    → Marking c slots (t + 1) (set marks t m) (n + m)
-unfolding size
-marking-next {c} {slots} {t} {n} {m} {marks} d l p e =
-    record {
-      in-day = omega arith;
-      long = length-set marks t m ∙ p .long;
-      marked =
-          below-more (λ (u : ℕ). getD (set marks t m) u 0 ≡ one (inCause c u)) t
-          (λ u k. getD-set-other marks t u m 0 (λ i. omega arith) ∙ p .marked u k)
-          (getD-set-same marks t m 0 (omega (arith, p .long)) ∙ e);
-      number = omega (arith, p .number, sum-next t (λ u. one (inCause c u)));
-      few = omega (arith, p .few, one-le (inCause c t));
-    }
-
-pub marking-more : {c : Cause} {slots t n m : ℕ} {marks : List ℕ} → slots ≤ maxSlots → t < slots → Marking c slots t marks n → m ≡ one (inCause c t) → n + m ≤ maxSlots
-marking-more {c} {t} d l p e = omega (arith, p .few, one-le (inCause c t))
-
-pub marking-end : {c : Cause} {slots t n : ℕ} {marks : List ℕ} → slots ≤ maxSlots → slots ≤ t → Marking c slots t marks n
-    → MarksOf (record { marks = marks; count = n }) c slots
-unfolding setOf
-marking-end {c} {slots} {t} {n} {marks} d l p =
-    record {
-      long = p .long;
-      set =
-          tab-unique false (map (ltb 0) (take slots marks)) slots (inCause c) (length-map (take slots marks) (ltb 0) ∙ rw length-take (omega (arith, p .long)))
-          (λ u k.
-          getD-map-below (ltb 0) (take slots marks) u false 0 (rw length-take (omega (arith, p .long)))
-          ∙ ap (ltb 0) (getD-take slots marks u 0 k ∙ p .marked u (omega arith)) ∙ one-above (inCause c u));
-      number = p .number ∙ ap (λ k. size k (inCause c)) (let e : t ≡ slots = omega (arith, p .in-day) in e) ∙ sym (count-tab slots (inCause c));
-    }
+use Rattle.cause_lines.specs.SlotCalls.{bitLines, CanPutSlots, SlotsIn}
+use Rattle.cause_lines.specs.EntryCalls.{textOf, linesWith, CanPutEntry, EntryPut, Listing, SameStretch, CanAppend, Appended}
 
 -- An entry ----------------------------------------------------------------------
 
-module _ {out : List ℕ} {at slots n : ℕ} {s : CausedStretch} {marks : List ℕ} (p : CanPutEntry out at slots s marks n) where
-  members : length (memberLines 1 (setOf slots marks)) ≡ n
-  members = length-memberLines 1 (setOf slots marks) ∙ ap count (p .set) ∙ sym (p .number)
+module _ {out : List ℕ} {at n : ℕ} {s : CausedStretch} {w : SlotWords} (p : CanPutEntry out at s w n) where
+  abbrev head : Line
+  head = line (s .blower) (s .last) (numberOf (s .cause)) n
 
-  pub entry-few : n ≤ maxSlots
-  entry-few = omega (arith, p .number, count-le-length (slotsOf slots (s .cause)), length-tab slots (inCause (s .cause)), p .day)
+  -- the lines behind the first
+  abbrev members : List Line
+  members = bitLines 0 (w .first) ++ bitLines 64 (w .second)
 
-  pub with-number : {x : ℕ} {o₁ : List ℕ} → x ≡ numberOf (s .cause) → o₁ ≡ putAt at (writeLine (s .blower) (s .last) x n) out
-      → o₁ ≡ putAt at (writeLine (s .blower) (s .last) (numberOf (s .cause)) n) out
-  with-number e q = q ∙ ap (λ y. putAt at (writeLine (s .blower) (s .last) y n) out) e
+  begun : Putting (linesWith s w n) (linesWith s w n) at out out 0
+  begun = putting-begin at out (linesWith s w n) (p .room) (linesWith s w n) refl
 
-  module _ {o₁ : List ℕ} (e₁ : o₁ ≡ putAt at (writeLine (s .blower) (s .last) (numberOf (s .cause)) n) out) where
-    same : length o₁ ≡ length out
-    same =
-        ap length e₁
-        ∙ length-putAt at (writeLine (s .blower) (s .last) (numberOf (s .cause)) n) out
-        (omega (arith, length-writeLine (s .blower) (s .last) (numberOf (s .cause)) n, p .room))
+  pub entry-room : at + lineBytes ≤ length out
+  entry-room = omega (arith, p .room)
 
-    pub entry-members : CanPutMembers o₁ (at + lineBytes) slots marks
-    entry-members = record { day = p .day; long = p .long; room = omega (arith, members, same, p .room) }
+  module _ {x : ℕ} {o₁ : List ℕ} (e : x ≡ numberOf (s .cause)) (e₁ : o₁ ≡ putAt at (writeLine (s .blower) (s .last) x n) out) where
+    headed : Putting (linesWith s w n) members at out o₁ (0 + 1)
+    headed =
+        putting-more at out (linesWith s w n) (p .room) (head ∷ []) members 1 begun refl
+        (put-one head (at + lineBytes * 0) out o₁ (e₁ ∙ ap₂ (λ (y k : ℕ). putAt k (writeLine (s .blower) (s .last) y n) out) e (let i : at ≡ at + lineBytes * 0 = omega arith in i)))
 
-    pub entry-put : {o₂ : List ℕ} {m : ℕ} → Put (memberLines 1 (setOf slots marks)) (at + lineBytes) o₁ o₂ m → EntryPut at slots s out o₂
-    unfolding entryLines writeLines
-    entry-put q =
+    pub first-can : CanPutSlots o₁ (at + lineBytes) 0 (w .first)
+    first-can =
         record {
-          bytes =
-              q .text
-              ∙ ap (putAt (at + lineBytes) (writeLines (memberLines 1 (setOf slots marks)))) e₁
-              ∙ putAt-append at lineBytes (writeLine (s .blower) (s .last) (numberOf (s .cause)) n) (writeLines (memberLines 1 (setOf slots marks))) out
-              (length-writeLine (s .blower) (s .last) (numberOf (s .cause)) n) (omega (arith, p .room))
-              ∙ ap (λ k. putAt at (writeLine (s .blower) (s .last) (numberOf (s .cause)) k ++ writeLines (memberLines 1 (setOf slots marks))) out) (p .number)
-              ∙ ap (λ x. putAt at (writeLine (s .blower) (s .last) (numberOf (s .cause)) (count (slotsOf slots (s .cause))) ++ writeLines (memberLines 1 x)) out) (p .set);
+          low = omega arith;
+          room = omega (arith, putting-room at out (linesWith s w n) (p .room) (bitLines 0 (w .first)) (bitLines 64 (w .second)) headed refl);
         }
+
+    module _ {o₂ : List ℕ} {m : ℕ} (q : Put (bitLines 0 (w .first)) (at + lineBytes) o₁ o₂ m) where
+      firsts : Putting (linesWith s w n) (bitLines 64 (w .second)) at out o₂ ((0 + 1) + m)
+      firsts =
+          putting-more at out (linesWith s w n) (p .room) (bitLines 0 (w .first)) (bitLines 64 (w .second)) m headed refl
+          (rw (← (let i : at + lineBytes ≡ at + lineBytes * (0 + 1) = omega arith in i)) q)
+
+      pub first-few : m ≤ 64
+      first-few = omega (arith, q .number, length-map (setBits 1 64 (w .first)) (λ u. line u 0 0 0), length-setBits 1 64 (w .first))
+
+      pub second-can : CanPutSlots o₂ (at + lineBytes + lineBytes * m) 64 (w .second)
+      second-can =
+          record {
+            low = omega arith;
+            room = omega (arith, firsts .number, firsts .same-length, p .room);
+          }
+
+      pub entry-put : {o₃ : List ℕ} {k : ℕ} → Put (bitLines 64 (w .second)) (at + lineBytes + lineBytes * m) o₂ o₃ k → EntryPut at s w n out o₃
+      entry-put {o₃} {k} z =
+          record {
+            bytes =
+                (putting-end at out (linesWith s w n) (p .room) {new = o₃}
+                (putting-more at out (linesWith s w n) (p .room) (bitLines 64 (w .second)) [] k firsts (sym (append-nil (bitLines 64 (w .second))))
+                (rw (← (let i : at + lineBytes + lineBytes * m ≡ at + lineBytes * ((0 + 1) + m) = omega arith in i)) z))
+                refl)
+                .text;
+          }
+
+-- The slots of a cause ----------------------------------------------------------
+
+-- their number is that of the bits of its words
+pub count-words : {w : SlotWords} {c : Cause} {slots : ℕ} → SlotsIn w c slots → ones (w .first) + ones (w .second) ≡ count (slotsOf slots c)
+unfolding memberLines
+count-words {w} {c} {slots} p =
+    omega (
+      arith,
+      length-memberLines 1 (slotsOf slots c),
+      length-map (membersFrom 1 (slotsOf slots c)) (λ u. line u 0 0 0),
+      ap length (p .members) ∙ length-append (setBits 1 64 (w .first)) (setBits 65 64 (w .second)),
+      length-setBits-ones 64 1 (w .first) (p .first-fits),
+      length-setBits-ones 64 65 (w .second) (p .second-fits),
+    )
+
+slots-few : (slots : ℕ) (c : Cause) → slots ≤ maxSlots → count (slotsOf slots c) ≤ maxSlots
+slots-few slots c d = omega (arith, count-le-length (slotsOf slots c), length-tab slots (inCause c))
+
+pub words-few : {w : SlotWords} {c : Cause} {slots : ℕ} → slots ≤ maxSlots → SlotsIn w c slots → ones (w .first) + ones (w .second) ≤ maxSlots
+words-few {c} {slots} d p = omega (arith, count-words p, slots-few slots c d)
+
+-- the lines put are those of the entry
+lines-are : {slots : ℕ} (s : CausedStretch) {w : SlotWords} {n : ℕ} → SlotsIn w (s .cause) slots → n ≡ count (slotsOf slots (s .cause))
+    → linesWith s w n ≡ entryLines (s .blower) (s .last) (obstacleOf slots (s .cause))
+unfolding entryLines memberLines
+lines-are {slots} s {w} {n} p e =
+    ap₂ (λ (k : ℕ) (ls : List Line). line (s .blower) (s .last) (numberOf (s .cause)) k ∷ ls) e
+    (sym (ap (map (λ u. line u 0 0 0)) (p .members) ∙ map-append (λ u. line u 0 0 0) (setBits 1 64 (w .first)) (setBits 65 64 (w .second))))
 
 -- its length
 entry-length : (slots : ℕ) (s : CausedStretch) → length (textOf slots s) ≡ lineBytes * (count (slotsOf slots (s .cause)) + 1)
@@ -164,9 +126,6 @@ unfolding entryLines
 entry-length slots s =
     length-writeLines (line (s .blower) (s .last) (numberOf (s .cause)) (count (slotsOf slots (s .cause))) ∷ memberLines 1 (slotsOf slots (s .cause)))
     ∙ ap (λ k. lineBytes * suc k) (length-memberLines 1 (slotsOf slots (s .cause))) ∙ ap (λ k. lineBytes * k) (sym (add-one (count (slotsOf slots (s .cause)))))
-
-pub marks-few : {r : Marks} {c : Cause} {slots : ℕ} → slots ≤ maxSlots → MarksOf r c slots → r .count ≤ maxSlots
-marks-few {c} {slots} d m = omega (arith, m .number, count-le-length (slotsOf slots c), length-tab slots (inCause c))
 
 -- The listing -------------------------------------------------------------------
 
@@ -252,16 +211,13 @@ same-text {slots} {s} {e} i =
     rw (i .blower) (rw (i .last) (rw (i .cause) refl))
 
 module _ {out : List ℕ} {slots : ℕ} {x : Extent} {s : CausedStretch} (p : CanAppend out slots x s) where
-  pub append-entry : {r : Marks} → MarksOf r (s .cause) slots → lineBytes * (r .count + 1) ≤ causesBytes - x .length
-      → CanPutEntry out (x .length) slots s (r .marks) (r .count)
-  append-entry m h =
+  pub append-entry : {w : SlotWords} {n : ℕ} → SlotsIn w (s .cause) slots → n ≡ count (slotsOf slots (s .cause)) → lineBytes * (n + 1) ≤ causesBytes - x .length
+      → CanPutEntry out (x .length) s w n
+  append-entry {w} {n} i e h =
       record {
-        day = p .day;
         last = p .last;
-        long = m .long;
-        set = m .set;
-        number = m .number;
-        room = omega (arith, p .room, p .within);
+        few = omega (arith, e, slots-few slots (s .cause) (p .day));
+        room = omega (arith, p .room, p .within, e, sym (length-writeLines (linesWith s w n)) ∙ ap (λ ls. length (writeLines ls)) (lines-are s i e) ∙ entry-length slots s);
       }
 
   pub append-cut : x .cut ≡ true → Appended x slots x s out out
@@ -276,15 +232,16 @@ module _ {out : List ℕ} {slots : ℕ} {x : Extent} {s : CausedStretch} (p : Ca
           more = λ es e old i r q. listing-full q e c (omega (arith, ap length (same-text i) ∙ entry-length slots s, k, p .within));
         }
 
-    pub append-more : lineBytes * (n + 1) ≤ causesBytes - x .length → {out′ : List ℕ} → EntryPut (x .length) slots s out out′
+    pub append-more : lineBytes * (n + 1) ≤ causesBytes - x .length → {w : SlotWords} → SlotsIn w (s .cause) slots → {out′ : List ℕ} → EntryPut (x .length) s w n out out′
         → Appended (record { length = x .length + lineBytes * (n + 1); cut = false }) slots x s out out′
-    append-more h {out′} w =
+    append-more h i {out′} put =
+        let w : out′ ≡ putAt (x .length) (textOf slots s) out = put .bytes ∙ ap (λ ls. putAt (x .length) (writeLines ls) out) (lines-are s i k) in
         let z : x .length + length (textOf slots s) ≤ causesBytes = omega (arith, entry-length slots s, k, p .within) in
         record {
           within = omega (arith, p .within);
-          same-length = ap length (w .bytes) ∙ length-putAt (x .length) (textOf slots s) out (omega (arith, z, p .room));
+          same-length = ap length w ∙ length-putAt (x .length) (textOf slots s) out (omega (arith, z, p .room));
           more = λ es e old i r q.
               subst (λ n. Listing (es ++ (e ∷ [])) old out′ (record { length = n; cut = false }))
               (let j : x .length + length (entryText e) ≡ x .length + lineBytes * (n + 1) = omega (arith, ap length (same-text i) ∙ entry-length slots s, k) in j)
-              (listing-more q e c (omega (arith, ap length (same-text i), z)) r (w .bytes ∙ ap (λ t. putAt (x .length) t out) (sym (same-text i))));
+              (listing-more q e c (omega (arith, ap length (same-text i), z)) r (w ∙ ap (λ t. putAt (x .length) t out) (sym (same-text i))));
         }

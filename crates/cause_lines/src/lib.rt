@@ -4,6 +4,7 @@
 // and where it is cut, is stated in specs/Entries.antt. For the layer above, which writes each entry when its stretch
 // ends.
 mod entries;
+mod slot_lines;
 
 pub use entries::append;
 use placing::Cause;
@@ -23,8 +24,8 @@ pub struct Extent {
     pub cut: bool,
 }
 
-// The slots of a cause: a mark of 1 for each, and their number.
-pub struct Marks {
-    pub marks: [u8; 96],
-    pub count: usize,
+// The slots of a cause in two words: slot t + 1 is bit t of the first, or bit t − 64 of the second.
+pub struct SlotWords {
+    pub first: u64,
+    pub second: u64,
 }

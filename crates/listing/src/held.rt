@@ -26,7 +26,7 @@ fn put_member(out: &mut [u8], at: usize, slot: u32, mark: u8) -> usize
 }
 
 // Writes a line for each slot that is marked, from a place of out on, and answers how many.
-pub fn put_members(out: &mut [u8], at: usize, slots: usize, marks: &[u8; 96]) -> usize
+fn put_members(out: &mut [u8], at: usize, slots: usize, marks: &[u8; 96]) -> usize
     requires { ⌜ CanPutMembers (now out) at slots (now marks) ⌝ }
     ensures { λ r. ⌜ Put (memberLines 1 (setOf slots (now (marks .entry)))) at (now (out .entry)) (now (out .exit)) r ⌝ }
 {

@@ -1,4 +1,5 @@
--- How many lines a plan has: at most one stretch for each slot of each blower, and one feed line for each feeding. Assumes nothing.
+-- How many lines a plan has: at most one stretch for each slot of each blower, and one feed line for each feeding.
+-- Assumes nothing.
 use mathlib.Core.Path.{_≡_, refl, sym, ap, _∙_}
 use mathlib.Core.Bool.{cond}
 use mathlib.Core.List.{List, [], _∷_, _++_, map}
@@ -32,7 +33,7 @@ length-stretchLines m q counts =
 
 -- Feed lines -----------------------------------------------------------------------
 
-length-setBits-ones : (n j w : ℕ) → w < 2 ^ n → length (setBits j n w) ≡ ones w
+pub length-setBits-ones : (n j w : ℕ) → w < 2 ^ n → length (setBits j n w) ≡ ones w
 unfolding setBits ones
 length-setBits-ones zero j w h = sym (ap ones z)
   where
