@@ -23,7 +23,7 @@ use Rattle.plan_lines.specs.Sizes.{causesBytes}
 use Rattle.plan_lines.specs.Lines.{Line, line, membersFrom, memberLines}
 use Rattle.plan_lines.specs.Text.{writeLines}
 use Rattle.plan_lines.specs.Putting.{Put, Putting, putting-begin, putting-more, putting-room, putting-end, put-one, length-writeLines}
-use Rattle.plan_lines.specs.SetBits.{setBits, length-setBits}
+use Rattle.plan_lines.specs.SetBits.{setBits}
 use Rattle.plan_lines.specs.LengthLaws.{length-setBits-ones}
 use Rattle.listing.specs.Opening.{putAt-over}
 use Rattle.listing.specs.HeldSteps.{length-memberLines}
@@ -33,6 +33,7 @@ use Rattle.cause_lines.specs.declared.SlotWords.{SlotWords}
 use Rattle.cause_lines.specs.Entries.{entryLines, entryText, entriesText, fitting, causesText, isCut}
 use Rattle.cause_lines.specs.FittingLaws.{length-both, length-one, fitting-all, cut-stays, more-cut}
 use Rattle.cause_lines.specs.SlotCalls.{bitLines, CanPutSlots, SlotsIn}
+use Rattle.cause_lines.specs.SlotLaws.{bits-few}
 use Rattle.cause_lines.specs.EntryCalls.{textOf, linesWith, CanPutEntry, EntryPut, Listing, SameStretch, CanAppend, Appended}
 
 -- An entry ----------------------------------------------------------------------
@@ -42,8 +43,8 @@ module _ {out : List ℕ} {at n : ℕ} {s : CausedStretch} {w : SlotWords} (p : 
   head = line (s .blower) (s .last) (numberOf (s .cause)) n
 
   -- the lines behind the first
-  abbrev members : List Line
-  members = bitLines 0 (w .first) ++ bitLines 64 (w .second)
+  abbrev slot-lines : List Line
+  slot-lines = bitLines 0 (w .first) ++ bitLines 64 (w .second)
 
   begun : Putting (linesWith s w n) (linesWith s w n) at out out 0
   begun = putting-begin at out (linesWith s w n) (p .room) (linesWith s w n) refl
@@ -52,9 +53,9 @@ module _ {out : List ℕ} {at n : ℕ} {s : CausedStretch} {w : SlotWords} (p : 
   entry-room = omega (arith, p .room)
 
   module _ {x : ℕ} {o₁ : List ℕ} (e : x ≡ numberOf (s .cause)) (e₁ : o₁ ≡ putAt at (writeLine (s .blower) (s .last) x n) out) where
-    headed : Putting (linesWith s w n) members at out o₁ (0 + 1)
+    headed : Putting (linesWith s w n) slot-lines at out o₁ (0 + 1)
     headed =
-        putting-more at out (linesWith s w n) (p .room) (head ∷ []) members 1 begun refl
+        putting-more at out (linesWith s w n) (p .room) (head ∷ []) slot-lines 1 begun refl
         (put-one head (at + lineBytes * 0) out o₁ (e₁ ∙ ap₂ (λ (y k : ℕ). putAt k (writeLine (s .blower) (s .last) y n) out) e (let i : at ≡ at + lineBytes * 0 = omega arith in i)))
 
     pub first-can : CanPutSlots o₁ (at + lineBytes) 0 (w .first)
@@ -65,19 +66,19 @@ module _ {out : List ℕ} {at n : ℕ} {s : CausedStretch} {w : SlotWords} (p : 
         }
 
     module _ {o₂ : List ℕ} {m : ℕ} (q : Put (bitLines 0 (w .first)) (at + lineBytes) o₁ o₂ m) where
-      firsts : Putting (linesWith s w n) (bitLines 64 (w .second)) at out o₂ ((0 + 1) + m)
-      firsts =
+      first-put : Putting (linesWith s w n) (bitLines 64 (w .second)) at out o₂ ((0 + 1) + m)
+      first-put =
           putting-more at out (linesWith s w n) (p .room) (bitLines 0 (w .first)) (bitLines 64 (w .second)) m headed refl
           (rw (← (let i : at + lineBytes ≡ at + lineBytes * (0 + 1) = omega arith in i)) q)
 
       pub first-few : m ≤ 64
-      first-few = omega (arith, q .number, length-map (setBits 1 64 (w .first)) (λ u. line u 0 0 0), length-setBits 1 64 (w .first))
+      first-few = omega (arith, q .number, bits-few 0 (w .first))
 
       pub second-can : CanPutSlots o₂ (at + lineBytes + lineBytes * m) 64 (w .second)
       second-can =
           record {
             low = omega arith;
-            room = omega (arith, firsts .number, firsts .same-length, p .room);
+            room = omega (arith, first-put .number, first-put .same-length, p .room);
           }
 
       pub entry-put : {o₃ : List ℕ} {k : ℕ} → Put (bitLines 64 (w .second)) (at + lineBytes + lineBytes * m) o₂ o₃ k → EntryPut at s w n out o₃
@@ -85,7 +86,7 @@ module _ {out : List ℕ} {at n : ℕ} {s : CausedStretch} {w : SlotWords} (p : 
           record {
             bytes =
                 (putting-end at out (linesWith s w n) (p .room) {new = o₃}
-                (putting-more at out (linesWith s w n) (p .room) (bitLines 64 (w .second)) [] k firsts (sym (append-nil (bitLines 64 (w .second))))
+                (putting-more at out (linesWith s w n) (p .room) (bitLines 64 (w .second)) [] k first-put (sym (append-nil (bitLines 64 (w .second))))
                 (rw (← (let i : at + lineBytes + lineBytes * m ≡ at + lineBytes * ((0 + 1) + m) = omega arith in i)) z))
                 refl)
                 .text;
@@ -106,11 +107,11 @@ count-words {w} {c} {slots} p =
       length-setBits-ones 64 65 (w .second) (p .second-fits),
     )
 
-slots-few : (slots : ℕ) (c : Cause) → slots ≤ maxSlots → count (slotsOf slots c) ≤ maxSlots
-slots-few slots c d = omega (arith, count-le-length (slotsOf slots c), length-tab slots (inCause c))
+count-few : (slots : ℕ) (c : Cause) → slots ≤ maxSlots → count (slotsOf slots c) ≤ maxSlots
+count-few slots c d = omega (arith, count-le-length (slotsOf slots c), length-tab slots (inCause c))
 
 pub words-few : {w : SlotWords} {c : Cause} {slots : ℕ} → slots ≤ maxSlots → SlotsIn w c slots → ones (w .first) + ones (w .second) ≤ maxSlots
-words-few {c} {slots} d p = omega (arith, count-words p, slots-few slots c d)
+words-few {c} {slots} d p = omega (arith, count-words p, count-few slots c d)
 
 -- the lines put are those of the entry
 lines-are : {slots : ℕ} (s : CausedStretch) {w : SlotWords} {n : ℕ} → SlotsIn w (s .cause) slots → n ≡ count (slotsOf slots (s .cause))
@@ -216,7 +217,7 @@ module _ {out : List ℕ} {slots : ℕ} {x : Extent} {s : CausedStretch} (p : Ca
   append-entry {w} {n} i e h =
       record {
         last = p .last;
-        few = omega (arith, e, slots-few slots (s .cause) (p .day));
+        few = omega (arith, e, count-few slots (s .cause) (p .day));
         room = omega (arith, p .room, p .within, e, sym (length-writeLines (linesWith s w n)) ∙ ap (λ ls. length (writeLines ls)) (lines-are s i e) ∙ entry-length slots s);
       }
 

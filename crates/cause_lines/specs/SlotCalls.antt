@@ -20,16 +20,17 @@ pub record CanPutSlots (out : List ℕ) (at from word : ℕ) : Type 0 where
   pub low : from ≤ 64
   pub room : Room (bitLines from word) at out
 
--- r is a word that has the bits of `word` which stand for slots of the day
+-- r is a word that has, of the bits of `word`, those of the day's slots and no others; bit j stands for slot
+-- from + 1 + j
 pub record DayWord (r word from slots : ℕ) : Type 0 where
   pub fits : r < 2 ^ 64
   pub same : setBits (suc from) 64 r ≡ setBits (suc from) (min 64 (slots - from)) word
 
--- r has the bit of one slot alone
+-- r has the bit of one slot alone, where bit j stands for slot from + 1 + j; no bit where none stands for it
 pub record SlotWord (r slot from : ℕ) : Type 0 where
   pub bits : (j : ℕ) → j < 64 → eqb (bit r j) 1 ≡ eqb (suc (from + j)) slot
 
--- the words have the cause's slots
+-- of the slots 1 to 96, the words have the cause's
 pub record CauseWords (r : SlotWords) (c : Cause) : Type 0 where
   pub set : (t : ℕ) → t < 96 → inWords (r .first) (r .second) t ≡ inCause c t
 

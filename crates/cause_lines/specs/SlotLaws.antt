@@ -65,7 +65,7 @@ members-parts j (suc n) k f =
     next : (j n : ℕ) → suc j + n ≡ j + suc n
     next j n = omega arith
 
--- in two words
+-- a slot in two words
 in-first : (a b t : ℕ) → t < 64 → inWords a b t ≡ eqb (bit a t) 1
 in-first a b t l = ap (λ x. eqb (cond x (bit a t) (bit b (t - 64))) 1) (lt-ltb t 64 l)
 
@@ -95,7 +95,7 @@ members-words a b slots h = go (leb slots 64) refl
 
 -- The words of a day -------------------------------------------------------------------
 
--- the lowest n bits, and those of the half
+-- the lowest n + 1 bits of a word, halved, are the lowest n of its half
 half : (n w : ℕ) → (w % 2 ^ suc n) / 2 ≡ (w / 2) % 2 ^ n
 half n w = sym (ap (λ m. m % 2 ^ n) split ∙ add-mul-mod-self-right ((w % 2 ^ suc n) / 2) (w / 2 ^ suc n) (2 ^ n) ∙ mod-eq-of-lt below)
   where
@@ -204,29 +204,31 @@ slots-in {c} {slots} {w} {r} h p a b =
 
 -- Putting the lines of a word ----------------------------------------------------------
 
+-- a word has at most 64 lines
+pub bits-few : (from word : ℕ) → length (bitLines from word) ≤ 64
+bits-few from word = omega (arith, length-map (setBits (suc from) 64 word) (λ u. line u 0 0 0), length-setBits (suc from) 64 word)
+
 -- the lines of all bits but those of `rest` were put
 pub record SlotsPut (from word at : ℕ) (old new : List ℕ) (n rest : ℕ) : Type 0 where
-  pub word-fits : rest < 2 ^ 64
+  pub rest-fits : rest < 2 ^ 64
   pub putting : Putting (bitLines from word) (bitLines from rest) at old new n
 
 module _ (from word at : ℕ) (old : List ℕ) (can : CanPutSlots old at from word) where
   pub slots-begin : word < 2 ^ 64 → SlotsPut from word at old old 0 word
-  slots-begin h = record { word-fits = h; putting = putting-begin at old _ (can .room) _ refl }
+  slots-begin h = record { rest-fits = h; putting = putting-begin at old _ (can .room) _ refl }
 
   module _ (n rest : ℕ) (new : List ℕ) (p : SlotsPut from word at old new n rest) where
     pub slots-end : rest ≡ 0 → Put (bitLines from word) at old new n
     slots-end e = putting-end at old _ (can .room) (p .putting) (rw (e, setBits-zero (suc from) 64))
 
-    -- a word has at most 64 of them
     pub slots-few : n ≤ 64
-    slots-few =
-        omega (arith, p .putting .number, length-map (setBits (suc from) 64 word) (λ u. line u 0 0 0), length-setBits (suc from) 64 word)
+    slots-few = omega (arith, p .putting .number, bits-few from word)
 
     module _ (not-none : rest ≢ 0) (j : ℕ) (l : Lowest rest j) where
       -- the line of the lowest bit, and those of the others
       next : bitLines from rest ≡ (line (from + j + 1) 0 0 0 ∷ []) ++ bitLines from (rest - 2 ^ j)
       next =
-          ap (map (λ u. line u 0 0 0)) (setBits-lowest 64 (suc from) rest (p .word-fits) not-none ∙ bits (suc from + trailingZeros 64 rest) (trailingZeros 64 rest) (omega (arith, l .least)) (sym (l .least)))
+          ap (map (λ u. line u 0 0 0)) (setBits-lowest 64 (suc from) rest (p .rest-fits) not-none ∙ bits (suc from + trailingZeros 64 rest) (trailingZeros 64 rest) (omega (arith, l .least)) (sym (l .least)))
         where
           bits : (y z : ℕ) → y ≡ from + j + 1 → z ≡ j → y ∷ setBits (suc from) 64 (rest - 2 ^ z) ≡ (from + j + 1) ∷ setBits (suc from) 64 (rest - 2 ^ j)
           bits y z p q = rw (p, q)
@@ -238,7 +240,7 @@ module _ (from word at : ℕ) (old : List ℕ) (can : CanPutSlots old at from wo
           → SlotsPut from word at old new′ (n + 1) rest′
       slots-more rest′ new′ r f =
           record {
-            word-fits = omega (arith, p .word-fits);
+            rest-fits = omega (arith, p .rest-fits);
             putting =
                 rw r
                 (putting-more at old _ (can .room) (line (from + j + 1) 0 0 0 ∷ []) _ 1 (p .putting) next

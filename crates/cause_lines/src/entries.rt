@@ -21,7 +21,7 @@ fn number_of(cause: Cause) -> u32
     }
 }
 
-// Writes the entry of a stretch at a place of out. The words have the slots of its cause, so many.
+// Writes the entry of a stretch at a place of out. The words have the slots of its cause, and count is their number.
 fn put_entry(out: &mut [u8], at: usize, s: CausedStretch, words: SlotWords, count: usize)
     requires { ⌜ CanPutEntry (now out) at s words count ⌝ }
     ensures { λ _. ⌜ EntryPut at s words count (now (out .entry)) (now (out .exit)) ⌝ }

@@ -6,7 +6,7 @@ ghost use Prim.Native.Nat.{_≤_};
 ghost use Rattle.plan_lines.specs.Putting.{Put};
 ghost use Rattle.cause_lines.specs.SlotCalls.{bitLines, CanPutSlots, DayWord, SlotWord, CauseWords, SlotsIn};
 
-// The word that has the bit of one slot alone, where bit j stands for slot from + 1 + j; 0 where it has none for it.
+// The word that has the bit of one slot alone, where bit j stands for slot from + 1 + j; 0 where no bit stands for it.
 fn slot_word(slot: u32, from: u32) -> u64
     ensures { λ r. ⌜ SlotWord r slot from ⌝ }
 {
@@ -20,7 +20,7 @@ fn slot_word(slot: u32, from: u32) -> u64
     bits::add_bit(0, j)
 }
 
-// The words of a cause, whatever the day's length.
+// The words of a cause, for a day of 96 slots.
 fn words_of(cause: Cause) -> SlotWords
     ensures { λ r. ⌜ CauseWords r cause ⌝ }
 {
@@ -42,7 +42,6 @@ fn words_of(cause: Cause) -> SlotWords
 
 // Of a word whose bit j stands for slot from + 1 + j, the bits of the day's slots.
 fn in_day(word: u64, from: usize, slots: usize) -> u64
-    requires { ⌜ from ≤ 64 ⌝ }
     ensures { λ r. ⌜ DayWord r word from slots ⌝ }
 {
     if slots <= from {
