@@ -3,16 +3,17 @@
  * Build the library with `rt staticlib kiwimound`; it is then target/staticlib/libkiwimound.a, for x86-64 Linux. Of
  * other libraries it needs memcpy and memset alone. It keeps no state between calls, takes no memory from the heap,
  * and reads and writes nothing but what a call lends it. So any number of threads may call it at once, as long as no
- * two of them lend the same bytes for writing.
+ * two of them lend the same memory for writing.
  *
- * Every call: a pointer and the length after it lend so many elements. The pointer must be valid for that many, also
- * where the length is 0 (then any pointer that is not null and is aligned will do), and bytes lent for writing must
- * not overlap anything else lent to the same call. Beyond that nothing is asked: whatever the bytes hold, the call
- * returns and answers a number.
+ * Every call: a pointer and the length after it lend so many elements of the pointer's type, so that the length counts
+ * words and not bytes where the type is uint64_t. The pointer must be aligned for its type and valid for that many,
+ * also where the length is 0 (then any pointer that is not null and is aligned will do), and memory lent for writing
+ * must not overlap anything else lent to the same call. Beyond that nothing is asked: whatever the memory holds, the
+ * call returns and answers a number.
  *
  * Numbers: 0 is accepted. Any other is the refusal below, the first that applies in the order of the list, in which
  * 7, 8, 9 and 13 go line by line; `line` is the line of the sheet that it names, from 1; 0 where it names none.
- * Every number but 0 and 12 changes no lent byte, and every further field of the answer is then 0. */
+ * Every number but 0 and 12 changes nothing that is lent, and every further field of the answer is then 0. */
 #ifndef KIWIMOUND_H
 #define KIWIMOUND_H
 
@@ -29,7 +30,7 @@ extern "C" {
 #define KIWIMOUND_LINE_BYTES 21u         /* a line of a sheet or of a listing: four fields of five columns, and byte 10 */
 #define KIWIMOUND_MAX_SHEET_BYTES 65520u /* a longer sheet is refused by its length */
 #define KIWIMOUND_LISTING_BYTES 32303u   /* the least length of a plan buffer */
-#define KIWIMOUND_PLACING_BYTES 6144u    /* the least length of a placing buffer */
+#define KIWIMOUND_PLACING_WORDS 96u      /* the least length of a placing buffer, in words of 64 bits */
 #define KIWIMOUND_CAUSES_BYTES 65536u    /* the least length of a buffer for causes; no listing of causes is longer */
 #define KIWIMOUND_MAX_SLOTS 96u
 #define KIWIMOUND_MAX_BLOWERS 8u
@@ -178,15 +179,17 @@ kiwimound_bounds_answer kiwimound_bounds(const uint8_t *sheet, size_t sheet_leng
  * feedings forced into them, the capacity there; then a line of slot, 0, 0, 0 for each. */
 kiwimound_planned kiwimound_plan(const uint8_t *sheet, size_t sheet_length, uint8_t *listing, size_t listing_length);
 
-/* Plans a sheet into `placing`. Refusals 1 to 9 and 13, then 10 for a buffer under KIWIMOUND_PLACING_BYTES, then 12.
- * Number 0 writes 6,144 bytes at its front: byte (i - 1) * 96 + t - 1 is 1 if ration i is fed in slot t, else 0; 12
- * writes as many zeros. Bytes after these keep their values; `length` is 0. */
-kiwimound_planned kiwimound_plan_placing(const uint8_t *sheet, size_t sheet_length, uint8_t *placing, size_t placing_length);
+/* Plans a sheet into `placing`. Refusals 1 to 9 and 13, then 10 for a buffer under KIWIMOUND_PLACING_WORDS, then 12.
+ * Number 0 writes 96 words at its front: word t - 1 is that of slot t, and its bit i - 1, the lowest being bit 0, is 1
+ * if ration i is fed in slot t; every other bit is 0. 12 writes 96 zeros. Words after these keep their values; `length`
+ * is 0. So `placing[t - 1] >> (i - 1) & 1` says whether ration i is fed in slot t. */
+kiwimound_planned kiwimound_plan_placing(const uint8_t *sheet, size_t sheet_length, uint64_t *placing,
+                                         size_t placing_words);
 
 /* Plans a sheet into both buffers, each as the calls above. If either is too short, number 10 and neither is
  * changed. `length` is the listing's. */
-kiwimound_planned kiwimound_plan_both(const uint8_t *sheet, size_t sheet_length, uint8_t *listing, size_t listing_length, uint8_t *placing,
-                                      size_t placing_length);
+kiwimound_planned kiwimound_plan_both(const uint8_t *sheet, size_t sheet_length, uint8_t *listing,
+                                      size_t listing_length, uint64_t *placing, size_t placing_words);
 
 /* Plans a sheet for its number alone: refusals 1 to 9 and 13, then 12, `length` 0. Changes nothing. */
 kiwimound_planned kiwimound_plan_number(const uint8_t *sheet, size_t sheet_length);
@@ -230,8 +233,9 @@ kiwimound_planned kiwimound_plan_rations(uint32_t slots, uint32_t blowers, uint3
                                          uint8_t *listing, size_t listing_length);
 
 /* As kiwimound_plan_both. */
-kiwimound_planned kiwimound_plan_rations_both(uint32_t slots, uint32_t blowers, uint32_t wake, const kiwimound_ration *rations, size_t rations_length,
-                                              uint8_t *listing, size_t listing_length, uint8_t *placing, size_t placing_length);
+kiwimound_planned kiwimound_plan_rations_both(uint32_t slots, uint32_t blowers, uint32_t wake,
+                                              const kiwimound_ration *rations, size_t rations_length, uint8_t *listing,
+                                              size_t listing_length, uint64_t *placing, size_t placing_words);
 
 /* As kiwimound_shortfall. */
 kiwimound_shortfall_answer kiwimound_shortfall_rations(uint32_t slots, uint32_t blowers, uint32_t wake, const kiwimound_ration *rations,

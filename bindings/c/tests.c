@@ -1,5 +1,5 @@
 /* Every call of the library, on the days of document 01 ("Days at the edge"), on days with several meals for a tank and
- * on days for the bill and for causes: what it answers, what it writes, and what keeps its value. */
+ * on days for the placing, for the bill and for causes: what it answers, what it writes, and what keeps its value. */
 #include "kiwimound.h"
 
 #include <stdio.h>
@@ -93,10 +93,12 @@ static unsigned failures = 0;
     "    1    1    2    2\n" \
     "    2    2    4    2\n"
 
-enum { GUARD = 0xA5, SPARE = 7 }; /* the value of bytes that must keep it, and bytes lent beyond the least length */
+/* The value of bytes that must keep it, and how many bytes or words are lent beyond the least length. */
+enum { GUARD = 0xA5, SPARE = 7 };
+enum { LENT_WORDS = KIWIMOUND_PLACING_WORDS + SPARE };
 
 static uint8_t listing[KIWIMOUND_LISTING_BYTES + SPARE];
-static uint8_t placing[KIWIMOUND_PLACING_BYTES + SPARE];
+static uint64_t placing[LENT_WORDS];
 static uint8_t causes[2 * KIWIMOUND_CAUSES_BYTES]; /* more than any listing of causes takes */
 
 static void guard(void)
@@ -106,10 +108,11 @@ static void guard(void)
     memset(causes, GUARD, sizeof causes);
 }
 
-/* From a place on, every byte has its value from before. */
-static bool kept(const uint8_t *bytes, size_t length, size_t from)
+/* From a place on, every byte has its value from before. Of words too, the size and the place are in bytes. */
+static bool kept(const void *lent, size_t size, size_t from)
 {
-    for (size_t i = from; i < length; i++)
+    const uint8_t *bytes = lent;
+    for (size_t i = from; i < size; i++)
         if (bytes[i] != GUARD)
             return false;
     return true;
@@ -121,22 +124,24 @@ static bool is_listing(kiwimound_planned p, const char *text)
     return p.length == length && memcmp(listing, text, length) == 0 && kept(listing, sizeof listing, length);
 }
 
+static bool is_placing(const uint64_t expected[KIWIMOUND_PLACING_WORDS])
+{
+    const size_t size = KIWIMOUND_PLACING_WORDS * sizeof *expected;
+    return memcmp(placing, expected, size) == 0 && kept(placing, sizeof placing, size);
+}
+
 /* The placing of FOUR_SLOTS: ration 1 in the slots 1 and 2, ration 2 in 3 and 4, ration 3 in 3. */
 static bool is_four_slots_placing(void)
 {
-    static const unsigned fed[5][2] = {{1, 1}, {1, 2}, {2, 3}, {3, 3}, {2, 4}}; /* ration, slot */
-    uint8_t expected[KIWIMOUND_PLACING_BYTES] = {0};
-    for (size_t i = 0; i < 5; i++)
-        expected[(fed[i][0] - 1) * KIWIMOUND_MAX_SLOTS + fed[i][1] - 1] = 1;
-    return memcmp(placing, expected, sizeof expected) == 0 && kept(placing, sizeof placing, sizeof expected);
+    enum { FIRST = 1, SECOND = 2, THIRD = 4 }; /* the bits of the rations 1 to 3 */
+    static const uint64_t expected[KIWIMOUND_PLACING_WORDS] = {FIRST, FIRST, SECOND | THIRD, SECOND};
+    return is_placing(expected);
 }
 
 static bool is_empty_placing(void)
 {
-    for (size_t i = 0; i < KIWIMOUND_PLACING_BYTES; i++)
-        if (placing[i] != 0)
-            return false;
-    return kept(placing, sizeof placing, KIWIMOUND_PLACING_BYTES);
+    static const uint64_t expected[KIWIMOUND_PLACING_WORDS] = {0};
+    return is_placing(expected);
 }
 
 static void test_read(void)
@@ -198,6 +203,10 @@ static void test_meals(void)
     guard();
     kiwimound_planned p = kiwimound_plan(LEND(TWO_MEALS), listing, sizeof listing);
     EXPECT(p.number == 0 && p.line == 0 && is_listing(p, TWO_MEALS_PLAN));
+    /* The meals of tank 1 are the rations 1 and 2, and tank 2 has ration 3. */
+    static const uint64_t words[KIWIMOUND_PLACING_WORDS] = {1, 4, 1 | 4, 4, 0, 0, 0, 0, 2, 2};
+    p = kiwimound_plan_placing(LEND(TWO_MEALS), placing, LENT_WORDS);
+    EXPECT(p.number == 0 && p.line == 0 && p.length == 0 && is_placing(words));
     kiwimound_part part = kiwimound_find(LEND(TWO_MEALS), 1);
     EXPECT(part.start == KIWIMOUND_LINE_BYTES && part.length == 2 * KIWIMOUND_LINE_BYTES);
     part = kiwimound_find(LEND(TWO_MEALS), 2);
@@ -267,13 +276,44 @@ static void test_planned(void)
     kiwimound_planned p = kiwimound_plan(LEND(FOUR_SLOTS), listing, sizeof listing);
     EXPECT(p.number == 0 && p.line == 0 && is_listing(p, FOUR_SLOTS_PLAN));
     guard();
-    p = kiwimound_plan_placing(LEND(FOUR_SLOTS), placing, sizeof placing);
+    p = kiwimound_plan_placing(LEND(FOUR_SLOTS), placing, LENT_WORDS);
     EXPECT(p.number == 0 && p.line == 0 && p.length == 0 && is_four_slots_placing());
     guard();
-    p = kiwimound_plan_both(LEND(FOUR_SLOTS), listing, sizeof listing, placing, sizeof placing);
+    p = kiwimound_plan_both(LEND(FOUR_SLOTS), listing, sizeof listing, placing, LENT_WORDS);
     EXPECT(p.number == 0 && p.line == 0 && is_listing(p, FOUR_SLOTS_PLAN) && is_four_slots_placing());
     p = kiwimound_plan_number(LEND(FOUR_SLOTS));
     EXPECT(p.number == 0 && p.line == 0 && p.length == 0);
+}
+
+/* As many rations and slots as there can be, one feeding each: ration 1 has slot 96 alone, ration 2 slot 95, and so on
+ * down to ration 64 in slot 33. */
+static void test_every_ration(void)
+{
+    static uint8_t sheet[KIWIMOUND_SHEET_BYTES(KIWIMOUND_MAX_RATIONS)];
+    uint32_t numbers[4 * KIWIMOUND_MAX_RATIONS];
+    uint64_t words[KIWIMOUND_PLACING_WORDS] = {0};
+    for (uint32_t i = 1; i <= KIWIMOUND_MAX_RATIONS; i++) {
+        const uint32_t slot = KIWIMOUND_MAX_SLOTS + 1 - i;
+        memcpy(numbers + 4 * (i - 1), (uint32_t[]){i, slot, slot, 1}, 4 * sizeof *numbers);
+        words[slot - 1] = (uint64_t)1 << (i - 1);
+    }
+    const kiwimound_written w = kiwimound_write(KIWIMOUND_MAX_SLOTS, 1, 1, KIWIMOUND_MAX_RATIONS, numbers,
+                                                4 * KIWIMOUND_MAX_RATIONS, sheet, sizeof sheet);
+    EXPECT(w.number == 0 && w.length == sizeof sheet);
+    EXPECT(words[95] == 1 && words[32] == UINT64_C(0x8000000000000000) && words[31] == 0);
+    for (size_t lent = KIWIMOUND_PLACING_WORDS; lent <= LENT_WORDS; lent++) {
+        guard();
+        kiwimound_planned p = kiwimound_plan_placing(sheet, sizeof sheet, placing, lent);
+        EXPECT(p.number == 0 && p.line == 0 && p.length == 0 && is_placing(words));
+        guard();
+        p = kiwimound_plan_both(sheet, sizeof sheet, listing, sizeof listing, placing, lent);
+        EXPECT(p.number == 0 && p.line == 0 && p.length != 0 && is_placing(words));
+    }
+    unsigned others = 0; /* bits that are not as they should be, read one by one */
+    for (uint32_t i = 1; i <= KIWIMOUND_MAX_RATIONS; i++)
+        for (uint32_t t = 1; t <= KIWIMOUND_MAX_SLOTS; t++)
+            others += (placing[t - 1] >> (i - 1) & 1) != (i + t == KIWIMOUND_MAX_SLOTS + 1);
+    EXPECT(others == 0);
 }
 
 static bool is_planned(const char *text, const char *expected)
@@ -334,10 +374,10 @@ static void test_held(void)
     kiwimound_planned p = kiwimound_plan(LEND(HELD), listing, sizeof listing);
     EXPECT(p.number == KIWIMOUND_HELD && p.line == 0 && is_listing(p, HELD_LISTING));
     guard();
-    p = kiwimound_plan_placing(LEND(HELD), placing, sizeof placing);
+    p = kiwimound_plan_placing(LEND(HELD), placing, LENT_WORDS);
     EXPECT(p.number == KIWIMOUND_HELD && p.line == 0 && p.length == 0 && is_empty_placing());
     guard();
-    p = kiwimound_plan_both(LEND(HELD), listing, sizeof listing, placing, sizeof placing);
+    p = kiwimound_plan_both(LEND(HELD), listing, sizeof listing, placing, LENT_WORDS);
     EXPECT(p.number == KIWIMOUND_HELD && p.line == 0 && is_listing(p, HELD_LISTING) && is_empty_placing());
     p = kiwimound_plan_number(LEND(HELD));
     EXPECT(p.number == KIWIMOUND_HELD && p.line == 0 && p.length == 0);
@@ -346,16 +386,23 @@ static void test_held(void)
 /* Refusals other than 12: nothing is written, and a sheet's own refusal comes before that of a buffer. */
 static void test_refused(void)
 {
-    const size_t whole = KIWIMOUND_LISTING_BYTES, grid = KIWIMOUND_PLACING_BYTES;
+    const size_t whole = KIWIMOUND_LISTING_BYTES, words = KIWIMOUND_PLACING_WORDS;
     guard();
     kiwimound_planned p = kiwimound_plan(LEND(HELD), listing, whole - 1);
     EXPECT(p.number == KIWIMOUND_SHORT_BUFFER && p.line == 0 && p.length == 0);
-    p = kiwimound_plan_placing(LEND(FOUR_SLOTS), placing, grid - 1);
+    const size_t few[] = {0, 1, words - 1}; /* the last is 95 */
+    for (size_t i = 0; i < sizeof few / sizeof *few; i++) {
+        p = kiwimound_plan_placing(LEND(FOUR_SLOTS), placing, few[i]);
+        EXPECT(p.number == KIWIMOUND_SHORT_BUFFER && p.line == 0 && p.length == 0);
+        p = kiwimound_plan_placing(LEND(HELD), placing, few[i]);
+        EXPECT(p.number == KIWIMOUND_SHORT_BUFFER && p.line == 0 && p.length == 0);
+        p = kiwimound_plan_both(LEND(FOUR_SLOTS), listing, whole, placing, few[i]);
+        EXPECT(p.number == KIWIMOUND_SHORT_BUFFER && p.line == 0 && p.length == 0);
+    }
+    p = kiwimound_plan_both(LEND(FOUR_SLOTS), listing, whole - 1, placing, words);
     EXPECT(p.number == KIWIMOUND_SHORT_BUFFER && p.line == 0 && p.length == 0);
-    p = kiwimound_plan_both(LEND(FOUR_SLOTS), listing, whole - 1, placing, grid);
-    EXPECT(p.number == KIWIMOUND_SHORT_BUFFER && p.line == 0 && p.length == 0);
-    p = kiwimound_plan_both(LEND(FOUR_SLOTS), listing, whole, placing, grid - 1);
-    EXPECT(p.number == KIWIMOUND_SHORT_BUFFER && p.line == 0 && p.length == 0);
+    p = kiwimound_plan_placing(LEND(BAD_WINDOW), placing, words);
+    EXPECT(p.number == KIWIMOUND_BAD_WINDOW && p.line == 3 && p.length == 0);
     p = kiwimound_plan_both(LEND(BAD_WINDOW), listing, 0, placing, 0);
     EXPECT(p.number == KIWIMOUND_BAD_WINDOW && p.line == 3 && p.length == 0);
     p = kiwimound_plan_number(LEND(BAD_WINDOW));
@@ -528,11 +575,14 @@ static void test_records(void)
     kiwimound_planned p = kiwimound_plan_rations(4, 2, 2, four_slots, 3, listing, sizeof listing);
     EXPECT(p.number == 0 && p.line == 0 && is_listing(p, FOUR_SLOTS_PLAN));
     guard();
-    p = kiwimound_plan_rations_both(4, 2, 2, four_slots, 3, listing, sizeof listing, placing, sizeof placing);
+    p = kiwimound_plan_rations_both(4, 2, 2, four_slots, 3, listing, sizeof listing, placing, LENT_WORDS);
     EXPECT(p.number == 0 && p.line == 0 && is_listing(p, FOUR_SLOTS_PLAN) && is_four_slots_placing());
     guard();
     p = kiwimound_plan_rations(3, 1, 1, held, 2, listing, sizeof listing);
     EXPECT(p.number == KIWIMOUND_HELD && p.line == 0 && is_listing(p, HELD_LISTING));
+    guard();
+    p = kiwimound_plan_rations_both(3, 1, 1, held, 2, listing, sizeof listing, placing, KIWIMOUND_PLACING_WORDS);
+    EXPECT(p.number == KIWIMOUND_HELD && p.line == 0 && is_listing(p, HELD_LISTING) && is_empty_placing());
     guard();
     p = kiwimound_plan_rations(10, 2, 3, two_meals, 3, listing, sizeof listing);
     EXPECT(p.number == 0 && p.line == 0 && is_listing(p, TWO_MEALS_PLAN));
@@ -545,6 +595,9 @@ static void test_records(void)
     EXPECT(p.number == KIWIMOUND_BAD_RATIONS && p.line == 1 && p.length == 0);
     p = kiwimound_plan_rations(4, 2, 2, four_slots, 3, listing, KIWIMOUND_LISTING_BYTES - 1);
     EXPECT(p.number == KIWIMOUND_SHORT_BUFFER && p.line == 0 && p.length == 0);
+    const size_t few = KIWIMOUND_PLACING_WORDS - 1;
+    p = kiwimound_plan_rations_both(4, 2, 2, four_slots, 3, listing, sizeof listing, placing, few);
+    EXPECT(p.number == KIWIMOUND_SHORT_BUFFER && p.line == 0 && p.length == 0 && kept(placing, sizeof placing, 0));
     kiwimound_written w = kiwimound_write_rations(4, 2, 2, four_slots, 3, listing, KIWIMOUND_SHEET_BYTES(3) - 1);
     EXPECT(w.number == KIWIMOUND_SHORT_BUFFER && w.line == 0 && w.length == 0 && kept(listing, sizeof listing, 0));
     w = kiwimound_write_rations(4, 2, 2, four_slots, 3, listing, sizeof listing);
@@ -570,6 +623,7 @@ int main(void)
     test_shortfall();
     test_bounds();
     test_planned();
+    test_every_ration();
     test_bill();
     test_held();
     test_refused();

@@ -24,8 +24,8 @@ struct outcome {
 struct outcome check_planning(const uint8_t *sheet, size_t size, uint32_t choice);
 
 /* Planning and the questions on the rations of an accepted sheet as records, or on changed ones as `choice` says;
- * with a plan buffer and a placing buffer of these sizes. */
-void check_records(const kiwimound_reading *sheet, uint32_t choice, size_t listing_size, size_t placing_size);
+ * with a plan buffer of so many bytes and a placing buffer of so many words. */
+void check_records(const kiwimound_reading *sheet, uint32_t choice, size_t listing_size, size_t placing_words);
 
 /* Listing causes, with a buffer of that size, of a sheet whose planning gives this number. `counts` has how many
  * feedings each slot of the plan holds, or is NULL where that is not known. Gives how many lines were listed. */

@@ -13,10 +13,12 @@ enum place { SHEET, SECOND, LISTING, PLACING, OUT, MARKS, LOWS, HIGHS, NUMBERS, 
 const uint8_t *lend_bytes(enum place place, const void *bytes, size_t size);
 const uint32_t *lend_numbers(enum place place, const uint32_t *numbers, size_t count);
 
-/* A buffer of just that size, of bytes that are the same every time. */
+/* A buffer of just that size, of bytes that are the same every time; or of so many words. */
 uint8_t *lend_buffer(enum place place, size_t size);
+uint64_t *lend_words(enum place place, size_t count);
 
-/* Takes the part at a place back: all its bytes from `written` on, and all around it, must be as they were lent. */
+/* Takes the part at a place back: all its bytes from `written` on, and all around it, must be as they were lent. Of
+ * words too, `written` is in bytes. */
 void take_back(enum place place, size_t written);
 
 /* Says what is wrong and stops the program. */

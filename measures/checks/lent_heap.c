@@ -28,6 +28,8 @@ const uint32_t *lend_numbers(enum place place, const uint32_t *numbers, size_t c
 
 uint8_t *lend_buffer(enum place place, size_t size) { return part(place, size); }
 
+uint64_t *lend_words(enum place place, size_t count) { return part(place, 8 * count); }
+
 void take_back(enum place place, size_t written) {
     if (written > places[place].size) fail("more written than lent");
     free(places[place].part);

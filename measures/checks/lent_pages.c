@@ -55,6 +55,9 @@ const uint32_t *lend_numbers(enum place place, const uint32_t *numbers, size_t c
 
 uint8_t *lend_buffer(enum place place, size_t size) { return part(place, size); }
 
+/* Aligned at both ends of the memory, since pages and words are. */
+uint64_t *lend_words(enum place place, size_t count) { return (uint64_t *)(void *)part(place, 8 * count); }
+
 void take_back(enum place place, size_t written) {
     uint8_t *memory = places[place].memory, *at = places[place].part;
     size_t from = (size_t)(at - memory);

@@ -8,6 +8,7 @@
 #include <string.h>
 
 enum { LINE = KIWIMOUND_LINE_BYTES, WORD = 5, SLOTS = KIWIMOUND_MAX_SLOTS };
+enum { PLACING_WORDS = KIWIMOUND_PLACING_WORDS };
 
 void read_line(const uint8_t *line, uint32_t numbers[4]) {
     char text[LINE + 1] = {0};
@@ -22,8 +23,9 @@ void read_line(const uint8_t *line, uint32_t numbers[4]) {
 static void line_at(const uint8_t *listing, size_t line, uint32_t numbers[4]) { read_line(listing + WORD + LINE * line, numbers); }
 
 /* The feed lines: each meal has its volume in its window, its parts counted from 1; each slot has no more than the
- * blowers, and a tank once at most. */
-static void check_feeds(const kiwimound_reading *sheet, const uint8_t *listing, uint32_t stretches, uint32_t feeds, uint8_t *grid, uint32_t *counts) {
+ * blowers, and a tank once at most. Gives the rations and the count of each slot. */
+static void check_feeds(const kiwimound_reading *sheet, const uint8_t *listing, uint32_t stretches, uint32_t feeds,
+                        uint64_t *words, uint32_t *counts) {
     uint32_t parts[64] = {0}, slot = 0;
     for (uint32_t i = 0; i < feeds; i++) {
         uint32_t f[4], j = 0;
@@ -36,7 +38,9 @@ static void check_feeds(const kiwimound_reading *sheet, const uint8_t *listing, 
         if (j == sheet->rations) fail("a feeding of no meal");
         if (slot < sheet->numbers[4 * j + 1]) fail("a feeding outside its window");
         if (f[3] != ++parts[j]) fail("a part out of order");
-        if (grid[SLOTS * j + slot - 1]++) fail("one tank fed twice in a slot");
+        uint64_t ration = (uint64_t)1 << j;
+        if (words[slot - 1] & ration) fail("one tank fed twice in a slot");
+        words[slot - 1] |= ration;
     }
     for (uint32_t j = 0; j < sheet->rations; j++)
         if (parts[j] != sheet->numbers[4 * j + 3]) fail("a ration without its volume");
@@ -142,40 +146,49 @@ static void check_questions(const uint8_t *sheet, size_t size, const kiwimound_r
     take_back(HIGHS, 4 * r->slots);
 }
 
-/* A buffer of no byte, one too short, just long enough or longer. */
+/* A buffer of no byte or word, one too short, just long enough or longer. */
 static size_t size_of(size_t least, uint32_t choice) {
     size_t sizes[] = {least, least - 1, least + choice / 4 % 50, 0};
     return sizes[choice % 8 > 3 ? 0 : choice % 4];
 }
 
+/* Takes the placing buffer back. Numbers 0 and 12 have written its first words: says so, and copies them. */
+static bool take_words(const uint64_t *placing, uint32_t number, uint64_t words[PLACING_WORDS]) {
+    bool are_written = number == 0 || number == 12;
+    size_t written = are_written ? sizeof *words * PLACING_WORDS : 0;
+    memcpy(words, placing, written);
+    take_back(PLACING, written);
+    return are_written;
+}
+
 struct outcome check_planning(const uint8_t *bytes, size_t size, uint32_t choice) {
     const uint8_t *sheet = lend_bytes(SHEET, bytes, size);
     kiwimound_reading r = kiwimound_read(sheet, size);
-    size_t one = size_of(KIWIMOUND_LISTING_BYTES, choice), other = size_of(KIWIMOUND_PLACING_BYTES, choice >> 8);
-    bool short_one = one < KIWIMOUND_LISTING_BYTES, short_other = other < KIWIMOUND_PLACING_BYTES;
+    size_t one = size_of(KIWIMOUND_LISTING_BYTES, choice), other = size_of(PLACING_WORDS, choice >> 8);
+    bool short_one = one < KIWIMOUND_LISTING_BYTES, short_other = other < PLACING_WORDS;
     struct outcome outcome = {kiwimound_plan_number(sheet, size).number, 0, 0, 0, 0, 0, 0};
     uint32_t number = outcome.number;
     if (r.number ? number != r.number : number != 0 && number != 12) fail("another number");
     bool planned = number == 0 || number == 12;
 
-    uint8_t *listing = lend_buffer(LISTING, one), *placing = lend_buffer(PLACING, other);
+    uint8_t *listing = lend_buffer(LISTING, one);
+    uint64_t *placing = lend_words(PLACING, other);
+    uint64_t both[PLACING_WORDS] = {0}, alone[PLACING_WORDS] = {0}, listed[PLACING_WORDS] = {0};
     kiwimound_planned p = kiwimound_plan_both(sheet, size, listing, one, placing, other);
     uint32_t expected = r.number ? r.number : short_one || short_other ? 10 : number;
     if (p.number != expected || p.line != r.line) fail("plan_both gives another number");
     if (expected != number && p.length) fail("a refusal with a length");
     take_back(LISTING, p.length);
-    take_back(PLACING, expected == 0 || expected == 12 ? KIWIMOUND_PLACING_BYTES : 0);
+    bool has_both = take_words(placing, expected, both);
 
-    placing = lend_buffer(PLACING, other);
+    placing = lend_words(PLACING, other);
     p = kiwimound_plan_placing(sheet, size, placing, other);
     expected = r.number ? r.number : short_other ? 10 : number;
     if (p.number != expected || p.line != r.line || p.length) fail("plan_placing gives another number");
-    uint8_t grid[KIWIMOUND_PLACING_BYTES] = {0}, own[KIWIMOUND_PLACING_BYTES] = {0}, marks[SLOTS] = {0};
-    uint32_t counts[SLOTS] = {0};
-    bool has_grid = expected == 0 || expected == 12;
-    if (has_grid) memcpy(grid, placing, sizeof grid);
-    take_back(PLACING, has_grid ? sizeof grid : 0);
+    bool has_alone = take_words(placing, expected, alone);
 
+    uint8_t marks[SLOTS] = {0};
+    uint32_t counts[SLOTS] = {0};
     listing = lend_buffer(LISTING, one);
     p = kiwimound_plan(sheet, size, listing, one);
     expected = r.number ? r.number : short_one ? 10 : number;
@@ -184,7 +197,7 @@ struct outcome check_planning(const uint8_t *bytes, size_t size, uint32_t choice
         uint32_t head[4];
         line_at(listing, 0, head);
         if (memcmp(listing, "PLAN\n", WORD) || p.length != WORD + LINE * (size_t)(2 + head[2] + head[3])) fail("another length");
-        check_feeds(&r, listing, head[2], head[3], own, counts);
+        check_feeds(&r, listing, head[2], head[3], listed, counts);
         check_stretches(&r, listing, head, counts);
         outcome.cents = check_bill(&r, listing, head);
         outcome.energy = head[0];
@@ -195,7 +208,9 @@ struct outcome check_planning(const uint8_t *bytes, size_t size, uint32_t choice
     } else if (p.length) {
         fail("a refusal with a length");
     }
-    if ((expected == 0 || expected == 12) && has_grid && memcmp(grid, own, sizeof grid)) fail("another placing than listed");
+    bool has_listed = expected == 0 || expected == 12; /* on 12 no feeding, and all words are 0 */
+    if (has_listed && has_alone && memcmp(alone, listed, sizeof listed)) fail("another placing than listed");
+    if (has_listed && has_both && memcmp(both, listed, sizeof listed)) fail("another placing than listed beside it");
     /* On a planned sheet any slots may be marked. */
     for (uint32_t t = 0; number == 0 && t < r.slots; t++) marks[t] = choice >> t % 32 & 1;
     if (planned && expected == number) check_questions(sheet, size, &r, outcome, listing, marks, counts);

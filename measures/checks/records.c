@@ -49,24 +49,26 @@ static void choose(struct day *day, const kiwimound_reading *r, uint32_t choice)
 /* What planning answered and wrote. */
 struct plan {
     kiwimound_planned answer;
-    uint8_t listing[KIWIMOUND_LISTING_BYTES], placing[KIWIMOUND_PLACING_BYTES];
-    size_t placed;
+    uint8_t listing[KIWIMOUND_LISTING_BYTES];
+    uint64_t placing[KIWIMOUND_PLACING_WORDS];
+    size_t placed; /* bytes of the placing */
 };
 
-/* In place of the size of a placing buffer: none is lent. */
+/* In place of the words of a placing buffer: none is lent. */
 static const size_t NONE = SIZE_MAX;
 
 /* Plans the rations, or the sheet where it is lent none. */
 static void plan(struct plan *plan, const struct day *day, const kiwimound_ration *rations, size_t one, size_t other) {
     const uint32_t *h = day->head;
     bool both = other != NONE;
-    uint8_t *listing = lend_buffer(LISTING, one), *placing = lend_buffer(PLACING, both ? other : 0);
+    uint8_t *listing = lend_buffer(LISTING, one);
+    uint64_t *placing = lend_words(PLACING, both ? other : 0);
     if (rations)
         plan->answer = both ? kiwimound_plan_rations_both(h[0], h[1], h[2], rations, h[3], listing, one, placing, other)
                             : kiwimound_plan_rations(h[0], h[1], h[2], rations, h[3], listing, one);
     else
         plan->answer = both ? kiwimound_plan_both(day->sheet, day->size, listing, one, placing, other) : kiwimound_plan(day->sheet, day->size, listing, one);
-    plan->placed = both && (plan->answer.number == 0 || plan->answer.number == 12) ? KIWIMOUND_PLACING_BYTES : 0;
+    plan->placed = both && (plan->answer.number == 0 || plan->answer.number == 12) ? sizeof plan->placing : 0;
     memcpy(plan->listing, listing, plan->answer.length);
     memcpy(plan->placing, placing, plan->placed);
     take_back(LISTING, plan->answer.length);

@@ -11,7 +11,8 @@
 enum { STACK = 1 << 20, PAINT = 0xA5, LIMIT = 64 << 10 };
 
 static uint8_t stack[STACK] __attribute__((aligned(4096)));
-static uint8_t sheet[70000], listing[KIWIMOUND_LISTING_BYTES], placing[KIWIMOUND_PLACING_BYTES], out[70000];
+static uint8_t sheet[70000], listing[KIWIMOUND_LISTING_BYTES], out[70000];
+static uint64_t placing[KIWIMOUND_PLACING_WORDS];
 static size_t size;
 static uint8_t marks[96];
 static uint32_t lows[96], highs[96];
@@ -24,8 +25,10 @@ static void write_sheet(void) {
 }
 static void find(void) { kiwimound_find(sheet, size, 999); }
 static void plan(void) { kiwimound_plan(sheet, size, listing, sizeof listing); }
-static void plan_placing(void) { kiwimound_plan_placing(sheet, size, placing, sizeof placing); }
-static void plan_both(void) { kiwimound_plan_both(sheet, size, listing, sizeof listing, placing, sizeof placing); }
+static void plan_placing(void) { kiwimound_plan_placing(sheet, size, placing, KIWIMOUND_PLACING_WORDS); }
+static void plan_both(void) {
+    kiwimound_plan_both(sheet, size, listing, sizeof listing, placing, KIWIMOUND_PLACING_WORDS);
+}
 static void plan_number(void) { kiwimound_plan_number(sheet, size); }
 static void compare(void) { kiwimound_compare(sheet, size, sheet, size); }
 static void causes(void) { kiwimound_causes(sheet, size, out, sizeof out); }
@@ -36,7 +39,9 @@ static void bounds(void) { kiwimound_bounds(sheet, size, lows, reading.slots, hi
 #define RECORDS reading.slots, reading.blowers, reading.wake, (const kiwimound_ration *)(const void *)reading.numbers, reading.rations
 static void write_rations(void) { kiwimound_write_rations(RECORDS, out, sizeof out); }
 static void plan_rations(void) { kiwimound_plan_rations(RECORDS, listing, sizeof listing); }
-static void plan_rations_both(void) { kiwimound_plan_rations_both(RECORDS, listing, sizeof listing, placing, sizeof placing); }
+static void plan_rations_both(void) {
+    kiwimound_plan_rations_both(RECORDS, listing, sizeof listing, placing, KIWIMOUND_PLACING_WORDS);
+}
 static void shortfall_rations(void) { kiwimound_shortfall_rations(RECORDS, marks, reading.slots); }
 static void bounds_rations(void) { kiwimound_bounds_rations(RECORDS, lows, reading.slots, highs, reading.slots); }
 

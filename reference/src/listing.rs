@@ -4,14 +4,15 @@
 use crate::bill;
 use crate::method::{self, Plan};
 use crate::placing::{Question, SlotSet};
-use crate::sheet::{line_text, read, Refusal, Sheet, LINE, MOST_RATIONS, MOST_SLOTS};
+use crate::sheet::{line_text, read, Refusal, Sheet, LINE, MOST_SLOTS};
 
 /// The least plan buffer: `PLAN`, its head line, for each of 8 blowers and 96 slots one
 /// stretch line and one feed line, and the line of the bill, by which request 103 lets it
 /// grow.
 pub const PLAN_BUFFER: usize = 32_282 + LINE;
-/// The least placing buffer: a byte for each of 64 rations and 96 slots.
-pub const PLACING_BUFFER: usize = (MOST_RATIONS * MOST_SLOTS) as usize;
+/// The least placing buffer: a word for each of 96 slots, with a bit for each of 64
+/// rations.
+pub const PLACING_WORDS: usize = MOST_SLOTS as usize;
 
 /// The listing of a plan. Its head line counts the stretch lines and the feed lines; the
 /// bill comes after them.
@@ -65,29 +66,32 @@ pub fn program(bytes: &[u8]) -> Vec<u8> {
 
 /// The planning call: number, line and length. Checks 1 to 9 and 13, 10 for each buffer
 /// that is lent, then 12. Without a plan buffer the length is 0. Numbers 0 and 12
-/// settle the first 6,144 bytes of a lent placing buffer; bytes after what is
+/// settle the first 96 words of a lent placing buffer (request 106): slot t is in word
+/// t − 1, ration i in bit i − 1, and every other bit is 0. Bytes and words after what is
 /// written keep their values.
 pub fn plan(
     bytes: &[u8],
     plan_buffer: Option<&mut [u8]>,
-    placing_buffer: Option<&mut [u8]>,
+    placing_buffer: Option<&mut [u64]>,
 ) -> (u32, u32, usize) {
     let sheet = match read(bytes) {
         Ok(sheet) => sheet,
         Err(Refusal { number, line }) => return (number, line, 0),
     };
-    let short =
-        |buffer: &Option<&mut [u8]>, least: usize| buffer.as_ref().is_some_and(|b| b.len() < least);
-    if short(&plan_buffer, PLAN_BUFFER) || short(&placing_buffer, PLACING_BUFFER) {
+    let short_plan = plan_buffer.as_ref().is_some_and(|b| b.len() < PLAN_BUFFER);
+    let short_placing = placing_buffer
+        .as_ref()
+        .is_some_and(|b| b.len() < PLACING_WORDS);
+    if short_plan || short_placing {
         return (10, 0, 0);
     }
     let outcome = method::plan(&sheet);
     if let Some(buffer) = placing_buffer {
-        buffer[..PLACING_BUFFER].fill(0);
+        buffer[..PLACING_WORDS].fill(0);
         if let Ok(plan) = &outcome {
             for (i, row) in plan.placing.iter().enumerate() {
                 for (t, &fed) in row.iter().enumerate() {
-                    buffer[i * MOST_SLOTS as usize + t] = u8::from(fed);
+                    buffer[t] |= u64::from(fed) << i;
                 }
             }
         }

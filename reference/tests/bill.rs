@@ -6,7 +6,7 @@ mod written;
 use reference::bill::{cents, charge};
 use reference::draws::Draws;
 use reference::generate::{any_sheet, tight_sheet, FULL, MIDDLE};
-use reference::listing::{plan, program, PLACING_BUFFER, PLAN_BUFFER};
+use reference::listing::{plan, program, PLACING_WORDS, PLAN_BUFFER};
 use reference::method::{self, stretches};
 use reference::sheet::{read, Sheet, LINE};
 use written::text;
@@ -141,7 +141,7 @@ fn the_plan_buffer_grows_by_a_line() {
         let mut buffer = lent[..size].to_vec();
         assert_eq!(plan(&day, Some(&mut buffer), None), answer);
         assert_eq!(buffer[answer.2..], lent[answer.2..size]);
-        let mut placing = vec![9; PLACING_BUFFER];
+        let mut placing = vec![9; PLACING_WORDS];
         assert_eq!(plan(&day, Some(&mut buffer), Some(&mut placing)), answer);
     }
 }

@@ -2,7 +2,7 @@
 
 mod written;
 
-use reference::listing::{compare, plan, program, PLACING_BUFFER, PLAN_BUFFER};
+use reference::listing::{compare, plan, program, PLACING_WORDS, PLAN_BUFFER};
 use reference::method::{self, Plan, State};
 use reference::placing::{bounds, shortfall, shown_set};
 use reference::sheet::read;
@@ -144,23 +144,22 @@ fn feedings_are_chosen_slot_by_slot() {
 }
 
 /// The two buffers before a call, longer than what they must be.
-fn buffers() -> (Vec<u8>, Vec<u8>) {
-    (vec![7; PLAN_BUFFER + 5], vec![9; PLACING_BUFFER + 5])
+fn buffers() -> (Vec<u8>, Vec<u64>) {
+    (vec![7; PLAN_BUFFER + 5], vec![9; PLACING_WORDS + 5])
 }
 
 #[test]
-fn planning_settles_every_lent_byte() {
+fn planning_settles_every_lent_byte_and_word() {
     let (mut listing, mut placing) = buffers();
     let answer = plan(&text(FIRST), Some(&mut listing), Some(&mut placing));
     assert_eq!(answer, (0, 0, FIRST_LISTING.len()));
     let (written, kept) = listing.split_at(FIRST_LISTING.len());
     assert_eq!(written, FIRST_LISTING.as_bytes());
     assert!(kept.iter().all(|&b| b == 7));
-    let fed: Vec<usize> = (0..PLACING_BUFFER).filter(|&i| placing[i] == 1).collect();
-    assert_eq!(fed, [0, 1, 96 + 2, 96 + 3, 2 * 96 + 2]);
-    let zeros = placing[..PLACING_BUFFER].iter().filter(|&&b| b == 0);
-    assert_eq!(zeros.count(), PLACING_BUFFER - 5);
-    assert_eq!(placing[PLACING_BUFFER..], [9; 5]);
+    // Ration 1 in slots 1 and 2, rations 2 and 3 in slot 3, ration 2 in slot 4.
+    assert_eq!(placing[..4], [0b001, 0b001, 0b110, 0b010]);
+    assert_eq!(placing[4..PLACING_WORDS], [0; 92]);
+    assert_eq!(placing[PLACING_WORDS..], [9; 5]);
 
     assert_eq!(plan(&text(FIRST), None, None), (0, 0, 0));
     let (_, mut alone) = buffers();
@@ -169,15 +168,15 @@ fn planning_settles_every_lent_byte() {
 }
 
 #[test]
-fn a_held_sheet_settles_every_lent_byte() {
+fn a_held_sheet_settles_every_lent_byte_and_word() {
     let (mut listing, mut placing) = buffers();
     let answer = plan(&text(HELD), Some(&mut listing), Some(&mut placing));
     assert_eq!(answer, (12, 0, HELD_LISTING.len()));
     let (written, kept) = listing.split_at(HELD_LISTING.len());
     assert_eq!(written, HELD_LISTING.as_bytes());
     assert!(kept.iter().all(|&b| b == 7));
-    assert!(placing[..PLACING_BUFFER].iter().all(|&b| b == 0));
-    assert_eq!(placing[PLACING_BUFFER..], [9; 5]);
+    assert_eq!(placing[..PLACING_WORDS], [0; 96]);
+    assert_eq!(placing[PLACING_WORDS..], [9; 5]);
 
     let (_, mut alone) = buffers();
     assert_eq!(plan(&text(HELD), None, Some(&mut alone)), (12, 0, 0));
@@ -186,7 +185,7 @@ fn a_held_sheet_settles_every_lent_byte() {
 }
 
 #[test]
-fn a_refusal_changes_no_lent_byte() {
+fn a_refusal_changes_no_lent_byte_or_word() {
     let (listing, placing) = buffers();
     for (day, refusal) in [
         (text("97 2 2 0"), (3, 1, 0)),
@@ -203,7 +202,7 @@ fn a_refusal_changes_no_lent_byte() {
         let (mut one, mut other) = buffers();
         let short_plan = Some(&mut one[..PLAN_BUFFER - 1]);
         assert_eq!(plan(&day, short_plan, Some(&mut other)), (10, 0, 0));
-        let short_placing = Some(&mut other[..PLACING_BUFFER - 1]);
+        let short_placing = Some(&mut other[..PLACING_WORDS - 1]);
         assert_eq!(plan(&day, Some(&mut one), short_placing), (10, 0, 0));
         assert_eq!(plan(&day, None, Some(&mut other[..0])), (10, 0, 0));
         assert_eq!((one, other), (listing.clone(), placing.clone()));

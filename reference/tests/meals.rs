@@ -4,7 +4,7 @@
 mod written;
 
 use reference::draws::Draws;
-use reference::listing::{compare, plan, program, PLACING_BUFFER, PLAN_BUFFER};
+use reference::listing::{compare, plan, program, PLACING_WORDS, PLAN_BUFFER};
 use reference::placing::{bounds, shortfall};
 use reference::sheet::{find, line_text, read, write, Refusal, LINE};
 use written::text;
@@ -133,7 +133,7 @@ fn check_13_comes_last_on_its_line_and_before_the_next_line() {
     }
 }
 
-/// Number 13 of every call: no lent byte changes, and it comes before 10, 11 and 12.
+/// Number 13 of every call: no lent byte or word changes, and it comes before 10, 11 and 12.
 #[test]
 fn every_call_refuses_by_13() {
     let day = text("4 1 1 2 / 5 1 2 2 / 5 2 4 1");
@@ -147,13 +147,13 @@ fn every_call_refuses_by_13() {
     assert_eq!(compare(&good, &day), (13, 3, false));
     assert_eq!(compare(&day, b""), (13, 3, false));
 
-    let (mut listing, mut placing) = (vec![7; PLAN_BUFFER], vec![9; PLACING_BUFFER]);
+    let (mut listing, mut placing) = (vec![7; PLAN_BUFFER], vec![9; PLACING_WORDS]);
     for lent in [3, PLAN_BUFFER] {
         let listing = Some(&mut listing[..lent]);
         assert_eq!(plan(&day, listing, Some(&mut placing)), (13, 3, 0));
     }
     assert!(listing.iter().all(|&b| b == 7));
-    assert!(placing.iter().all(|&b| b == 9));
+    assert!(placing.iter().all(|&word| word == 9));
     for lent in [0, 3 * LINE] {
         let mut buffer = vec![7; lent];
         let rations = [5, 1, 2, 2, 5, 2, 4, 1];

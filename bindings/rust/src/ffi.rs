@@ -4,14 +4,12 @@
 
 /// The least length of a plan buffer.
 const LISTING_BYTES: usize = 32_303;
-/// The least length of a placing buffer.
-const PLACING_BYTES: usize = 6_144;
+/// The least length of a placing buffer, in words of 64 bits: a word for each slot that a day can have.
+const PLACING_WORDS: usize = 96;
 /// The least length of a buffer for causes.
 const CAUSES_BYTES: usize = 65_536;
 /// Bytes of a line of a sheet or of a listing.
 pub const LINE_BYTES: usize = 21;
-/// The most slots of a day.
-pub const MAX_SLOTS: usize = 96;
 /// The most rations of a sheet.
 pub const MAX_RATIONS: usize = 64;
 
@@ -112,8 +110,8 @@ mod calls {
             length: usize,
             listing: *mut u8,
             listing_length: usize,
-            placing: *mut u8,
-            placing_length: usize,
+            placing: *mut u64,
+            placing_words: usize,
         ) -> Planned;
         pub fn kiwimound_plan_number(sheet: *const u8, length: usize) -> Planned;
         pub fn kiwimound_compare(
@@ -178,17 +176,18 @@ pub fn bounds(sheet: &[u8], lows: &[u32], highs: &[u32]) -> BoundsAnswer {
     }
 }
 
-/// What planning gives: its number, the listing's bytes, and those of the placing.
+/// What planning gives: its number, the listing's bytes, and the placing's words: slot t in word t - 1, ration i in bit
+/// i - 1.
 pub struct Day {
     pub number: u32,
     pub listing: Vec<u8>,
-    pub placing: Vec<u8>,
+    pub placing: Vec<u64>,
 }
 
 /// Plans a sheet into buffers of their full size, so that none is too short.
 pub fn plan(sheet: &[u8]) -> Day {
     let mut listing = vec![0; LISTING_BYTES];
-    let mut placing = vec![0; PLACING_BYTES];
+    let mut placing = vec![0; PLACING_WORDS];
     let planned = unsafe {
         calls::kiwimound_plan_both(
             sheet.as_ptr(),

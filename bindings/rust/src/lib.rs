@@ -15,6 +15,7 @@
 //! assert_eq!(plan.bill(), 16);
 //! let off = plan.stretches().iter().find(|s| s.state == State::Off).unwrap();
 //! assert_eq!((off.blower, off.first, off.last), (2, 1, 2));
+//! assert!(plan.tanks_in(3).eq([2, 3]));
 //! # Ok::<(), Box<dyn std::error::Error>>(())
 //! ```
 //!

@@ -2,7 +2,7 @@
 use crate::ffi;
 use crate::listing;
 use std::error::Error;
-use std::fmt;
+use std::{fmt, iter};
 
 /// What a blower does during a stretch.
 #[derive(Clone, Copy, Debug, PartialEq, Eq, Hash)]
@@ -50,11 +50,15 @@ pub struct Plan {
     feedings: Vec<Feeding>,
     bill: u32,
     listing: Vec<u8>,
-    placing: Vec<u8>,
+    /// A word for each slot, in which bit i is 1 if ration i is fed there, slots and rations counted from 0.
+    placing: Vec<u64>,
+    /// The tank of each ration, in sheet order.
+    tanks: Vec<u32>,
 }
 
 impl Plan {
-    pub(crate) fn new(listing: Vec<u8>, placing: Vec<u8>) -> Plan {
+    /// Of the library's listing and placing, and the tank of each ration of the sheet.
+    pub(crate) fn new(listing: Vec<u8>, placing: Vec<u64>, tanks: Vec<u32>) -> Plan {
         let mut lines = listing::lines_after_word(&listing);
         let [energy, starts, stretches, feedings] =
             lines.next().expect("a plan has its first line");
@@ -92,6 +96,7 @@ impl Plan {
             bill: 100 * hundreds + remaining,
             listing,
             placing,
+            tanks,
         }
     }
 
@@ -124,15 +129,47 @@ impl Plan {
     /// Whether a ration, counted from 0 in sheet order, is fed in a slot, counted from 1; false for a ration or a slot
     /// that the day does not have.
     pub fn is_fed(&self, ration: usize, slot: u32) -> bool {
-        let slot = slot as usize;
-        ration < ffi::MAX_RATIONS
-            && (1..=ffi::MAX_SLOTS).contains(&slot)
-            && self.placing[ration * ffi::MAX_SLOTS + slot - 1] == 1
+        ration < ffi::MAX_RATIONS && self.word(slot) >> ration & 1 == 1
+    }
+
+    /// The rations fed in a slot, rising: rations are counted from 0 in sheet order, slots from 1. There are none in a
+    /// slot that the day does not have. Of the placing, this reads the slot's one word alone.
+    pub fn rations_in(&self, slot: u32) -> impl Iterator<Item = usize> + '_ {
+        let mut left = self.word(slot);
+        iter::from_fn(move || {
+            let lowest = left.trailing_zeros() as usize;
+            // the lowest bit goes; 0 has none
+            left &= left.checked_sub(1)?;
+            Some(lowest)
+        })
+    }
+
+    /// The tanks fed in a slot, counted from 1, rising: those of [`Plan::rations_in`]. None comes twice, since a tank's
+    /// meals don't overlap.
+    ///
+    /// ```
+    /// use kiwimound::Sheet;
+    ///
+    /// let sheet = Sheet::read("    2    2    1    2\n    4    1    2    2\n    9    1    1    1\n")?;
+    /// let plan = sheet.plan()?;
+    /// assert!(plan.tanks_in(1).eq([4, 9]));
+    /// assert!(plan.tanks_in(2).eq([4]));
+    /// # Ok::<(), Box<dyn std::error::Error>>(())
+    /// ```
+    pub fn tanks_in(&self, slot: u32) -> impl Iterator<Item = u32> + '_ {
+        self.rations_in(slot).map(|ration| self.tanks[ration])
     }
 
     /// How many feedings a slot holds.
     pub fn count(&self, slot: u32) -> usize {
-        self.feedings.iter().filter(|f| f.slot == slot).count()
+        self.word(slot).count_ones() as usize
+    }
+
+    /// The word of a slot, counted from 1; 0 for a slot that the day does not have.
+    fn word(&self, slot: u32) -> u64 {
+        let place = (slot as usize).checked_sub(1);
+        let word = place.and_then(|place| self.placing.get(place));
+        word.copied().unwrap_or(0)
     }
 
     /// The listing's bytes, as the program `planner` writes them.

@@ -165,7 +165,10 @@ impl Sheet {
     pub fn plan(&self) -> Result<Plan, Held> {
         let day = ffi::plan(&self.bytes);
         match day.number {
-            0 => Ok(Plan::new(day.listing, day.placing)),
+            0 => {
+                let tanks = self.rations.iter().map(|r| r.tank).collect();
+                Ok(Plan::new(day.listing, day.placing, tanks))
+            }
             12 => Err(Held::new(&day.listing)),
             number => unreachable!("number {number} for an accepted sheet"),
         }

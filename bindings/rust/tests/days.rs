@@ -1,5 +1,5 @@
-//! The days of document 01 ("Days at the edge"), days with several meals for a tank and days for the bill and for
-//! causes, through the safe interface.
+//! The days of document 01 ("Days at the edge"), days with several meals for a tank and days for the placing, for the
+//! bill and for causes, through the safe interface.
 use kiwimound::{
     Bounds, Cause, Comparison, Ending, Fault, Feeding, Head, Held, Ration, Refusal, Sheet, State,
 };
@@ -41,6 +41,17 @@ fn one_feeding() -> Sheet {
 /// Tank 1 has a morning and an evening meal.
 fn two_meals() -> Sheet {
     sheet(10, 2, 3, &[[1, 1, 3, 2], [1, 8, 10, 2], [2, 1, 4, 3]])
+}
+
+/// A full day: 96 slots, 8 blowers and 64 rations, which are a morning and an afternoon meal for each of 32 tanks. Each
+/// half of the day has 376 feedings, and the blowers can make 384.
+fn full_day() -> Sheet {
+    let meals = |tank: u32| {
+        let volume = 1 + 7 * (tank - 1) % 23;
+        [[tank, 1, 48, volume], [tank, 49, 96, volume]]
+    };
+    let rations: Vec<[u32; 4]> = (1..=32).flat_map(meals).collect();
+    sheet(96, 8, 5, &rations)
 }
 
 fn stretches(sheet: &Sheet) -> Vec<(u32, u32, u32, State)> {
@@ -170,6 +181,57 @@ fn first_listing() {
     assert!(plan.listing().starts_with(b"PLAN\n    9    2    4    5\n"));
     assert!(plan.listing().ends_with(b"\n    0   16    0    0\n"));
     assert_eq!(plan.listing().len(), 5 + 21 * (1 + 4 + 5 + 1));
+}
+
+/// What a plan says of each slot, whether the day has it or not, beside the feed lines.
+#[test]
+fn placing_of_the_feed_lines() {
+    let days = [four_slots(), one_feeding(), two_meals(), full_day()];
+    for day in days.into_iter().chain([sheet(3, 1, 4, &[])]) {
+        let plan = day.plan().unwrap();
+        // the windows of a tank's meals don't overlap, so a slot tells the meal
+        let ration_of = |f: &Feeding| {
+            let is_fed = |r: &Ration| r.tank == f.tank && (r.first..=r.last).contains(&f.slot);
+            day.rations().iter().position(is_fed).unwrap()
+        };
+        for slot in (0..=200).chain([u32::MAX - 1, u32::MAX]) {
+            let lines = || plan.feedings().iter().filter(|f| f.slot == slot);
+            let tanks: Vec<u32> = lines().map(|f| f.tank).collect();
+            let rations: Vec<usize> = lines().map(ration_of).collect();
+            assert_eq!(plan.tanks_in(slot).collect::<Vec<_>>(), tanks);
+            assert_eq!(plan.rations_in(slot).collect::<Vec<_>>(), rations);
+            assert_eq!(plan.count(slot), tanks.len());
+            for ration in (0..200).chain([usize::MAX - 1, usize::MAX]) {
+                assert_eq!(
+                    plan.is_fed(ration, slot),
+                    rations.contains(&ration),
+                    "ration {ration}, slot {slot}"
+                );
+            }
+        }
+    }
+}
+
+#[test]
+fn rations_and_tanks_of_a_slot() {
+    let days = [four_slots(), two_meals(), full_day()];
+    let [first, meals, full] = days.map(|day| day.plan().unwrap());
+    assert!(first.rations_in(3).eq([1, 2]) && first.tanks_in(3).eq([2, 3]));
+    // the meals of tank 1 are the rations 0 and 1
+    assert!(meals.rations_in(3).eq([0, 2]) && meals.tanks_in(3).eq([1, 2]));
+    assert!(meals.rations_in(9).eq([1]) && meals.tanks_in(9).eq([1]));
+    // ration 63 has the last bit of a word
+    assert!((49..=96).any(|slot| full.rations_in(slot).any(|ration| ration == 63)));
+    for slot in [0, 5, 97, u32::MAX] {
+        assert_eq!(
+            (first.rations_in(slot).count(), first.tanks_in(slot).count()),
+            (0, 0)
+        );
+        assert!(!first.is_fed(0, slot) && first.count(slot) == 0);
+    }
+    for ration in [3, 64, 65, usize::MAX] {
+        assert!((1..=4).all(|slot| !first.is_fed(ration, slot)));
+    }
 }
 
 #[test]

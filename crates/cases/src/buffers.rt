@@ -11,6 +11,17 @@ pub fn fill(buffer: &mut [u8]) {
     }
 }
 
+// Gives word i the value (i * 7 + 3) * 0x0101010101010101 modulo 2^64.
+pub fn fill_words(buffer: &mut [u64]) {
+    let mut w: u64 = 217020518514230019;
+    let mut i = 0;
+    while i < buffer.len() {
+        buffer[i] = w;
+        w = std::num::wrapping_add_u64(w, 506381209866536711);
+        i += 1;
+    }
+}
+
 // One byte more of a digest.
 fn step(h: u32, b: u8) -> u32 {
     (h % 65521 * 31 + b as u32) % 65521
@@ -30,4 +41,20 @@ pub fn digest_after(h: u32, bytes: &[u8]) -> u32 {
 // The digest of bytes; that of none is 0.
 pub fn digest(bytes: &[u8]) -> u32 {
     digest_after(0, bytes)
+}
+
+// One word more of a digest.
+fn word_step(h: u32, w: u64) -> u32 {
+    (h % 65521 * 31 + (w % 65521) as u32) % 65521
+}
+
+// The digest of words: for each word h becomes (h * 31 + word modulo 65,521) modulo 65,521; that of none is 0.
+pub fn digest_words(words: &[u64]) -> u32 {
+    let mut d = 0;
+    let mut i = 0;
+    while i < words.len() {
+        d = word_step(d, words[i]);
+        i += 1;
+    }
+    d
 }

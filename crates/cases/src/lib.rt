@@ -1,5 +1,5 @@
 // What the programs that answer a stream of cases share: taking a case from standard input, the numbers and parts of its payload, the words of an
-// answer, and the bytes and the digest of a lent buffer.
+// answer, and what a lent buffer of bytes or words holds, and its digest.
 //
 // A case has a header of 16 bytes: the operation, a number in 5 columns, a blank, the payload's length in 8 columns and byte 10. The payload follows it.
 // Operation E ends the stream.
@@ -10,7 +10,9 @@ mod payloads;
 
 pub use buffers::digest;
 pub use buffers::digest_after;
+pub use buffers::digest_words;
 pub use buffers::fill;
+pub use buffers::fill_words;
 pub use input::next_case;
 pub use input::room;
 pub use output::end_line;

@@ -136,7 +136,23 @@ ones-sub w j e =
 pub bit-none : (w j : ℕ) → bit w j ≢ 1 → bit w j ≡ 0
 bit-none w j n = omega (arith, bit-lt w j)
 
+-- a number below 2 ^ j does not have the bit j
+pub bit-below : (w j : ℕ) → w < 2 ^ j → bit w j ≡ 0
+bit-below w j h = bit-none w j (λ e. omega (arith, bit-le w j e))
+
 -- the bits of a | b
 pub bit-or : (a b j : ℕ) → bit (bitOr a b) j ≡ max (bit a j) (bit b j)
 unfolding bit
 bit-or a b j = rw (or-shr a b j, or-step (a / 2 ^ j) (b / 2 ^ j)) (omega arith)
+
+-- a number is known by its bits
+pub same-bits : (v w : ℕ) → ((j : ℕ) → bit v j ≡ bit w j) → v ≡ w
+same-bits =
+    bin-ind (λ (v : ℕ). (w : ℕ) → ((j : ℕ) → bit v j ≡ bit w j) → v ≡ w)
+    (λ w h.
+    ⊎-elim (λ e. sym e)
+    (λ l. let p = some-bit w (λ e. omega arith) in absurd (omega (arith, p .1, h (p .0), bit-of-zero (p .0))))
+    (eq-zero-or-pos w))
+    (λ v ih w h.
+    let e : v / 2 ≡ w / 2 = ih (w / 2) (λ j. sym (bit-suc v j) ∙ h (suc j) ∙ bit-suc w j) in
+    omega (arith, h zero, bit-zero v, bit-zero w))

@@ -1,7 +1,7 @@
 -- Laws of the lists that the layers share. Assumes nothing.
 use mathlib.Core.Path.{_≡_, refl, sym, ap, _∙_}
 use mathlib.Core.Bool.{Bool, true, false}
-use mathlib.Core.List.{List, [], _∷_, _++_, append-assoc}
+use mathlib.Core.List.{List, [], _∷_, _++_, map, append-assoc}
 use Prim.Native.Nat.{ℕ, zero, suc, _+_, _-_, _<_, _≤_}
 use native.Mathlib.Numerals.{add-one}
 use native.Mathlib.Omega.{arith}
@@ -42,6 +42,22 @@ range-snoc a (suc n) = ap (λ l. a ∷ l) (range-snoc (suc a) n ∙ ap (λ k. ra
   where
     next : (a n : ℕ) → suc a + n ≡ a + suc n
     next a n = omega arith
+
+module _ {A : Type 0} (f : ℕ → A) where
+  length-from : (a n : ℕ) → length (map f (range a n)) ≡ n
+  length-from a zero = refl
+  length-from a (suc n) = ap suc (length-from (suc a) n)
+
+  pub length-map-range : (n : ℕ) → length (map f (range 0 n)) ≡ n
+  length-map-range n = length-from 0 n
+
+  getD-from : (z : A) (a n j : ℕ) → j < n → getD (map f (range a n)) j z ≡ f (a + j)
+  getD-from z a zero j l = absurd (omega arith)
+  getD-from z a (suc n) zero l = ap f (omega arith)
+  getD-from z a (suc n) (suc j) l = getD-from z (suc a) n j (omega arith) ∙ ap f (omega arith)
+
+  pub getD-map-range : (z : A) (n j : ℕ) → j < n → getD (map f (range 0 n)) j z ≡ f j
+  getD-map-range z n j l = getD-from z 0 n j l ∙ ap f (omega arith)
 
 module _ {A B : Type 0} where
   pub flatMap-append : (f : A → List B) (xs ys : List A) → flatMap f (xs ++ ys) ≡ flatMap f xs ++ flatMap f ys

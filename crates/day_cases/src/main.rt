@@ -28,16 +28,16 @@ fn digest_output(sheet: &[u8]) {
 
 fn plan(sheet: &[u8]) {
     let mut room = [0u8; 32303];
-    let mut grid = [0u8; 6144];
+    let mut placing = [0u64; 96];
     cases::fill(&mut room);
-    cases::fill(&mut grid);
-    let r = planning::plan_both(sheet, &mut room, &mut grid);
+    cases::fill_words(&mut placing);
+    let r = planning::plan_both(sheet, &mut room, &mut placing);
     io::write_all(1, b"D");
     cases::word(r.number);
     cases::word(r.line);
     cases::size(r.length);
     cases::word(cases::digest(cases::first_part(&room, r.length)));
-    cases::word(cases::digest(&grid));
+    cases::word(cases::digest_words(&placing));
     cases::end_line();
 }
 

@@ -1,13 +1,13 @@
 -- Why the calls' answers are those of Answers.antt, whatever list of checks a call makes on its sheet alone. Assumes
 -- nothing.
-use mathlib.Core.Path.{_≡_, refl, sym, ap, _∙_}
+use mathlib.Core.Path.{_≡_, refl, sym, ap, _∙_, subst}
 use mathlib.Core.Bool.{Bool, true, false, _&&_, _||_, not, cond}
 use mathlib.Core.List.{List, [], _∷_, _++_, cons≢nil}
 use Prim.Native.Nat.{ℕ, suc, _*_, _≤_, _<_}
 use native.Mathlib.Omega.{arith}
 use lib.Dec.{eqb, ltb}
 use lib.IntN.{ℤ, pos}
-use lib.ListN.{length, drop, replicate, length-replicate}
+use lib.ListN.{length, take, drop, replicate, length-replicate}
 use lib.Seq.{take-append-seam, drop-append-seam}
 use borrow.Author.Tests.{eq-eqb, ne-eqb, eqb-true, ltb-false, not-false}
 use Rattle.common.specs.Tests.{or-false}
@@ -31,18 +31,19 @@ use Rattle.schedules.specs.DemandLaws.{windows-demandsOf}
 use Rattle.schedules.specs.Theorems.{feasible-iff-sound}
 use Rattle.questions.specs.Calls.{sheetShortfall, boundsFault, cutHighs, sheetFeasible}
 use Rattle.questions.specs.BoundsSteps.{length-cutHighs}
-use Rattle.plan_lines.specs.Sizes.{planBytes, gridBytes}
-use Rattle.plan_lines.specs.Text.{gridOf}
-use Rattle.planning.specs.Problem.{Problem, alone, ProblemInRange, canBePlanned, feedingsOf, planListing, heldListing, listingOf, gridFor}
-use Rattle.planning.specs.Planning.{heldFaults, planChecks, planRefusal, shortPlan, shortGrid, writes, listedAnswer, listingAfter, gridAfter}
+use Rattle.plan_lines.specs.Sizes.{planBytes, placingWords}
+use Rattle.plan_lines.specs.PlacingForms.{wordsOf, gridBytes, gridOf, SameFeedings}
+use Rattle.plan_lines.specs.PlacingFormLaws.{length-wordsOf, same-feedings}
+use Rattle.planning.specs.Problem.{Problem, alone, ProblemInRange, canBePlanned, feedingsOf, planListing, heldListing, listingOf, wordsFor}
+use Rattle.planning.specs.Planning.{heldFaults, planChecks, planRefusal, shortPlan, shortPlacing, writes, listedAnswer, listingAfter, placingAfter}
 use Rattle.planning.specs.PlacingLaws.{placing-rows, length-placing}
+use Rattle.planning.specs.InputLaws.{no-words}
 use Rattle.planning.specs.WrittenLaws.{writes-planned, writes-held}
-use Rattle.planning.specs.ProblemLaws.{feedings-sound, listing-plan, listing-held, grid-plan, length-listing}
+use Rattle.planning.specs.ProblemLaws.{feedings-sound, listing-plan, listing-held, words-plan, words-held, length-listing}
 use Rattle.planning.specs.AloneLaws.{left-alone, room-alone, may-alone, alone-in-range}
 use Rattle.planning.specs.CallAnswers.{writes-nothing, listed-nothing, placed-nothing}
 use Rattle.program.specs.Program.{output}
 use Rattle.records.specs.Records.{recordFaults}
-use Rattle.demands.specs.GridLaws.{length-gridOf}
 use Rattle.demands.specs.Outcome.{AloneIs}
 use Rattle.demands.specs.Answers.{FirstOf, NotZero, RefusedNotHeld, ShortfallOf, YesFor, Front, PlanBuffer, PlacingBuffer, SheetBuffer, ProgramText}
 
@@ -102,9 +103,9 @@ pub long-plan : (listing : List ℕ) → shortPlan listing ≡ false → planByt
 unfolding shortPlan
 long-plan listing e = ltb-false (length listing) planBytes e
 
-pub long-grid : (placing : List ℕ) → shortGrid placing ≡ false → gridBytes ≤ length placing
-unfolding shortGrid
-long-grid placing e = ltb-false (length placing) gridBytes e
+pub long-placing : (placing : List ℕ) → shortPlacing placing ≡ false → placingWords ≤ length placing
+unfolding shortPlacing
+long-placing placing e = ltb-false (length placing) placingWords e
 
 -- Calls that plan ------------------------------------------------------------------------------
 
@@ -146,27 +147,42 @@ module _ {own : List Refusal} {s : Sheet} (checks : OwnChecks own s) (p : Proble
               listed (heldListing p) (writes-held (r .number) e) t (omega (arith, ap length t, length-listing p (range (z .0)), room (z .1)));
         }
 
-    marked : (bytes : List ℕ) → writes (r .number) ≡ true → gridFor p ≡ bytes → length bytes ≤ length old → Front bytes old (gridAfter r (gridFor p) old)
-    unfolding gridAfter
-    marked bytes w e l = rw (w, e) (front-over bytes old l)
+    marked : (words : List ℕ) → writes (r .number) ≡ true → wordsFor p ≡ words → length words ≡ placingWords → placingWords ≤ length old
+        → Front words old (placingAfter r (wordsFor p) old) × (take placingWords (placingAfter r (wordsFor p) old) ≡ words)
+    unfolding placingAfter
+    marked words w e n l =
+        let f = front-over words old (omega (arith, n)) in
+        (rw (w, e) f, ap (λ k. take k (placingAfter r (wordsFor p) old)) (sym n) ∙ rw (w, e) (f .text-is))
 
-    no-grid : canBePlanned p ≡ false → gridFor p ≡ replicate gridBytes 0
-    unfolding gridFor gridOf padded
-    no-grid e = rw (e, gridFor)
+    -- the words of the feedings, where number 0 is given
+    planned-words : r .number ≡ 0 → placingWords ≤ length old
+        → Front (wordsOf (feedingsOf p)) old (placingAfter r (wordsFor p) old) × (take placingWords (placingAfter r (wordsFor p) old) ≡ wordsOf (feedingsOf p))
+    planned-words e = marked (wordsOf (feedingsOf p)) (writes-planned (r .number) e) (words-plan p (number-zero e .2)) (length-wordsOf (feedingsOf p))
 
-    pub placing-buffer : (short ≡ false → gridBytes ≤ length old) → PlacingBuffer p (r .number) old (gridAfter r (gridFor p) old)
+    -- and where 12 is
+    held-words : r .number ≡ noPlacing → placingWords ≤ length old
+        → Front (replicate placingWords 0) old (placingAfter r (wordsFor p) old) × (take placingWords (placingAfter r (wordsFor p) old) ≡ replicate placingWords 0)
+    held-words e =
+        marked (replicate placingWords 0) (writes-held (r .number) e) (words-held p (number-twelve e .2) ∙ sym no-words) (length-replicate {A = ℕ} placingWords 0)
+
+    no-grid : SameFeedings (replicate placingWords 0) (replicate gridBytes 0)
+    unfolding gridOf padded
+    no-grid = subst (λ words. SameFeedings words (replicate gridBytes 0)) (sym no-words) (same-feedings [] (λ j l. absurd (omega arith)) (omega arith))
+
+    pub placing-buffer : (short ≡ false → placingWords ≤ length old) → PlacingBuffer p (r .number) old (placingAfter r (wordsFor p) old)
     placing-buffer room =
         record {
-          refused = λ h. sym (placed-nothing r (silent h) (gridFor p) old);
-          planned = λ e.
+          refused = λ h. sym (placed-nothing r (silent h) (wordsFor p) old);
+          planned = λ e. (length-wordsOf (feedingsOf p), planned-words e (room (number-zero e .1)) .0);
+          held = λ e. held-words e (room (number-twelve e .1)) .0;
+          as-grid = λ e.
               let z = number-zero e in
               let g = range (z .0) in
               let can = feedings-sound p g (z .2) in
-              let n = length-gridOf (p .sheet .slots) (g .values .head .slots .le) (feedingsOf p) (placing-rows (p .sheet) (feedingsOf p) can) (omega (arith, length-placing (p .sheet) (feedingsOf p) can, g .values .head .rations)) in
-              (n, marked (gridOf (feedingsOf p)) (writes-planned (r .number) e) (grid-plan p (z .2)) (omega (arith, n, room (z .1))));
-          held = λ e.
-              let z = number-twelve e in
-              marked (replicate gridBytes 0) (writes-held (r .number) e) (no-grid (z .2)) (omega (arith, length-replicate {A = ℕ} gridBytes 0, room (z .1)));
+              subst (λ words. SameFeedings words (gridOf (feedingsOf p))) (sym (planned-words e (room (z .1)) .1))
+              (same-feedings (feedingsOf p) (λ j l. omega (arith, placing-rows (p .sheet) (feedingsOf p) can j l, g .values .head .slots .le))
+              (omega (arith, length-placing (p .sheet) (feedingsOf p) can, g .values .head .rations)));
+          held-as-grid = λ e. subst (λ words. SameFeedings words (replicate gridBytes 0)) (sym (held-words e (room (number-twelve e .1)) .1)) no-grid;
         }
 
 -- whatever the checks of its sheet alone are, the answer is the first check that applies
@@ -190,17 +206,17 @@ module _ {own : List Refusal} {s : Sheet} (checks : OwnChecks own s) where
       PlanBuffer p (r .number) (listedAnswer r (listingOf p) .length) listing (listingAfter r (listingOf p) listing)
   buffer-alone listing = plan-buffer checks p (alone-in-range s) (shortPlan listing) listing (long-plan listing)
 
-  pub placing-alone : (placing : List ℕ) → let r = firstRefusal (planChecks own (shortGrid placing) p) in
-      PlacingBuffer p (r .number) placing (gridAfter r (gridFor p) placing)
-  placing-alone placing = placing-buffer checks p (alone-in-range s) (shortGrid placing) placing (long-grid placing)
+  pub placing-alone : (placing : List ℕ) → let r = firstRefusal (planChecks own (shortPlacing placing) p) in
+      PlacingBuffer p (r .number) placing (placingAfter r (wordsFor p) placing)
+  placing-alone placing = placing-buffer checks p (alone-in-range s) (shortPlacing placing) placing (long-placing placing)
 
-  pub both-alone : (listing placing : List ℕ) → let r = firstRefusal (planChecks own (shortPlan listing || shortGrid placing) p) in
+  pub both-alone : (listing placing : List ℕ) → let r = firstRefusal (planChecks own (shortPlan listing || shortPlacing placing) p) in
       PlanBuffer p (r .number) (listedAnswer r (listingOf p) .length) listing (listingAfter r (listingOf p) listing)
-      × PlacingBuffer p (r .number) placing (gridAfter r (gridFor p) placing)
+      × PlacingBuffer p (r .number) placing (placingAfter r (wordsFor p) placing)
   both-alone listing placing =
-      let short = shortPlan listing || shortGrid placing in (
-        plan-buffer checks p (alone-in-range s) short listing (λ e. long-plan listing (or-false (shortPlan listing) (shortGrid placing) e .0)),
-        placing-buffer checks p (alone-in-range s) short placing (λ e. long-grid placing (or-false (shortPlan listing) (shortGrid placing) e .1)),
+      let short = shortPlan listing || shortPlacing placing in (
+        plan-buffer checks p (alone-in-range s) short listing (λ e. long-plan listing (or-false (shortPlan listing) (shortPlacing placing) e .0)),
+        placing-buffer checks p (alone-in-range s) short placing (λ e. long-placing placing (or-false (shortPlan listing) (shortPlacing placing) e .1)),
       )
 
 -- where none of the checks of the sheet alone applies, it is a problem in range

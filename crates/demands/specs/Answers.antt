@@ -18,8 +18,9 @@ use Rattle.schedules.specs.Shortfall.{shortfall}
 use Rattle.schedules.specs.Demands.{demandsOf, fullHigh}
 use Rattle.marks.specs.Marks.{marked}
 use Rattle.questions.specs.Calls.{cutHighs}
-use Rattle.plan_lines.specs.Sizes.{gridBytes, causesBytes}
-use Rattle.plan_lines.specs.Text.{refusalText, gridOf}
+use Rattle.plan_lines.specs.Sizes.{placingWords, causesBytes}
+use Rattle.plan_lines.specs.PlacingForms.{wordsOf, gridBytes, gridOf, SameFeedings}
+use Rattle.plan_lines.specs.Text.{refusalText}
 use Rattle.planning.specs.Problem.{Problem, feedingsOf, planListing, heldListing}
 use Rattle.cause_lines.specs.Entries.{entriesText, causesText, MostThatFit}
 use Rattle.causes.specs.CauseCalls.{endingsOf}
@@ -78,10 +79,14 @@ pub record PlanBuffer (p : Problem) (number size : ℕ) (old new : List ℕ) : T
 -- A placing buffer lent to such a call.
 pub record PlacingBuffer (p : Problem) (number : ℕ) (old new : List ℕ) : Type 0 where
   pub refused : RefusedNotHeld number → new ≡ old
-  -- 6,144 bytes, which mark the feedings ..
-  pub planned : number ≡ 0 → (length (gridOf (feedingsOf p)) ≡ gridBytes) × Front (gridOf (feedingsOf p)) old new
+  -- 96 words, which mark the feedings: slot t in word t − 1, ration i in bit i − 1 ..
+  pub planned : number ≡ 0 → (length (wordsOf (feedingsOf p)) ≡ placingWords) × Front (wordsOf (feedingsOf p)) old new
   -- .. and are all 0 where nothing is planned
-  pub held : number ≡ noPlacing → Front (replicate gridBytes 0) old new
+  pub held : number ≡ noPlacing → Front (replicate placingWords 0) old new
+  -- the byte grid of the same feedings, 6,144 zeros where nothing is planned, marks the same: each byte is its bit, and
+  -- the grid can be made of the words as the words of the grid
+  pub as-grid : number ≡ 0 → SameFeedings (take placingWords new) (gridOf (feedingsOf p))
+  pub held-as-grid : number ≡ noPlacing → SameFeedings (take placingWords new) (replicate gridBytes 0)
 
 -- A text that lists the causes of problem p's stretches; `cut` says whether it was cut.
 pub record CausesListed (p : Problem) (cut : Bool) (text : List ℕ) : Type 0 where

@@ -19,11 +19,11 @@ use Rattle.method.specs.FeedingLaws.{chosen-greedy, same-eq, same-self}
 use Rattle.method.specs.Theorems.{settled-as-worded, runs-as-worded, intervals-are-settled, loads-feasible}
 use Rattle.energy.specs.Energy.{starts, energy}
 use Rattle.plan_lines.specs.Lines.{stretchLines, feedLines, planLines}
-use Rattle.planning.specs.Problem.{Problem, alone, left, ProblemInRange, canBePlanned, settledCounts, feedingsOf, countsOf, planWith, listingOf, gridFor}
-use Rattle.planning.specs.Planning.{planChecks, listedAnswer, listingAfter, gridAfter, compareRefusal, sameDay}
+use Rattle.planning.specs.Problem.{Problem, alone, left, ProblemInRange, canBePlanned, settledCounts, feedingsOf, countsOf, planWith, listingOf, wordsFor}
+use Rattle.planning.specs.Planning.{planChecks, listedAnswer, listingAfter, placingAfter, compareRefusal, sameDay}
 use Rattle.planning.specs.ReadListing.{written, tanks, linesOf, stretchesOn}
 use Rattle.planning.specs.StretchLineLaws.{stretchesOn-lines}
-use Rattle.planning.specs.WrittenLaws.{number-planned, grid-written, writes-planned, stretchPart-plan, feedPart-plan, head-plan, placing-on}
+use Rattle.planning.specs.WrittenLaws.{number-planned, placing-written, writes-planned, stretchPart-plan, feedPart-plan, head-plan, placing-on}
 use Rattle.planning.specs.ProblemLaws.{windows-left, room-below, may-planned, possible, settled-low-is-high, length-settledCounts, rest-load, feedings-whole, counts-whole, length-countsOf}
 use Rattle.planning.specs.AloneLaws.{left-alone, room-alone}
 use Rattle.demands.specs.Outcome.{placingIn}
@@ -113,9 +113,9 @@ module _ {own : List Refusal} (formed : own ≡ []) (p : Problem) (g : ProblemIn
   pub listed-by-method : (listing : List ℕ) → ByMethod p (linesOf (written (listedAnswer r (listingOf p)) (listingAfter r (listingOf p) listing)))
   listed-by-method listing = by-method p g can _ (written-listing formed p g short enough listing)
 
-  pub marked-by-method : (grid : List ℕ) → ChosenByMethod p (placingIn (p .sheet) (gridAfter r (gridFor p) grid))
-  marked-by-method grid =
-      feedings-chosen p g can _ (marked-feedings p g can (gridAfter r (gridFor p) grid) grid (grid-written r (gridFor p) grid (writes-planned (r .number) number-is)))
+  pub marked-by-method : (placing : List ℕ) → ChosenByMethod p (placingIn (p .sheet) (placingAfter r (wordsFor p) placing))
+  marked-by-method placing =
+      feedings-chosen p g can _ (marked-feedings p g can (placingAfter r (wordsFor p) placing) placing (placing-written r (wordsFor p) placing (writes-planned (r .number) number-is)))
 
 -- two sheets that can be planned
 module _ (a b : List ℕ) (f : faults a ≡ []) (x : HasPlacing (alone (sheetOf a))) (g : faults b ≡ []) (y : HasPlacing (alone (sheetOf b))) where

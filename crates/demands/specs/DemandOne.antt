@@ -36,8 +36,8 @@ use Rattle.schedules.specs.Demands.{demandsOf}
 use Rattle.questions.specs.Calls.{marksRefusal, sheetShortfall, shortfallFor, shortfallOf, boundsFault, boundsRefusal, sheetFeasible, boundsFor, boundsOf}
 use Rattle.marks.specs.Marks.{marksFault}
 use Rattle.plan_lines.specs.Text.{heldText, refusalText}
-use Rattle.planning.specs.Problem.{alone, canBePlanned, shownSet, heldListing, listingOf, gridFor}
-use Rattle.planning.specs.Planning.{heldFaults, planChecks, planRefusal, shortPlan, shortGrid, listedAnswer, unlistedAnswer, listingAfter, gridAfter, compareRefusal, sameDay, comparedOf, planRefusalFor}
+use Rattle.planning.specs.Problem.{alone, canBePlanned, shownSet, heldListing, listingOf, wordsFor}
+use Rattle.planning.specs.Planning.{heldFaults, planChecks, planRefusal, shortPlan, shortPlacing, listedAnswer, unlistedAnswer, listingAfter, placingAfter, compareRefusal, sameDay, comparedOf, planRefusalFor}
 use Rattle.planning.specs.AloneLaws.{held-alone}
 use Rattle.causes.specs.CauseCalls.{endingsOf, shortCauses, causesAnswer, causesAfter}
 use Rattle.program.specs.Program.{explanationOf}
@@ -83,15 +83,15 @@ pub record DemandOne : Type 0 where
       FirstOf (planChecks (faults b) short p) (a .number) (a .line)
       × PlanBuffer p (a .number) (a .length) listing (listingAfter r (listingOf p) listing)
   -- without a plan buffer the length is 0, whatever the number, and on 12 the placing buffer alone changes
-  pub plan-placing : (b placing : List ℕ) → let p = alone (sheetOf b) in let short = shortGrid placing in
+  pub plan-placing : (b placing : List ℕ) → let p = alone (sheetOf b) in let short = shortPlacing placing in
       let r = planRefusal b short in let a = unlistedAnswer r in
       FirstOf (planChecks (faults b) short p) (a .number) (a .line)
-      × (a .length ≡ 0) × PlacingBuffer p (a .number) placing (gridAfter r (gridFor p) placing)
+      × (a .length ≡ 0) × PlacingBuffer p (a .number) placing (placingAfter r (wordsFor p) placing)
   -- a buffer that is too short, whichever it is, leaves both unchanged
-  pub plan-both : (b listing placing : List ℕ) → let p = alone (sheetOf b) in let short = shortPlan listing || shortGrid placing in
+  pub plan-both : (b listing placing : List ℕ) → let p = alone (sheetOf b) in let short = shortPlan listing || shortPlacing placing in
       let r = planRefusal b short in let a = listedAnswer r (listingOf p) in
       FirstOf (planChecks (faults b) short p) (a .number) (a .line)
-      × PlanBuffer p (a .number) (a .length) listing (listingAfter r (listingOf p) listing) × PlacingBuffer p (a .number) placing (gridAfter r (gridFor p) placing)
+      × PlanBuffer p (a .number) (a .length) listing (listingAfter r (listingOf p) listing) × PlacingBuffer p (a .number) placing (placingAfter r (wordsFor p) placing)
   pub plan-number : (b : List ℕ) → let a = unlistedAnswer (planRefusal b false) in
       FirstOf (planChecks (faults b) false (alone (sheetOf b))) (a .number) (a .line) × (a .length ≡ 0)
   -- the first sheet is checked to the end, 12 too, before the second
@@ -122,9 +122,9 @@ pub record DemandOne : Type 0 where
       FirstOf (planChecks (recordFaults s) short p) (a .number) (a .line)
       × PlanBuffer p (a .number) (a .length) listing (listingAfter r (listingOf p) listing)
   pub plan-rations-both : (slots blowers wake : ℕ) (rations : List Ration) (listing placing : List ℕ) → let s = recordSheet slots blowers wake rations in
-      let p = alone s in let short = shortPlan listing || shortGrid placing in let r = planRefusalFor (recordFaults s) s short in let a = listedAnswer r (listingOf p) in
+      let p = alone s in let short = shortPlan listing || shortPlacing placing in let r = planRefusalFor (recordFaults s) s short in let a = listedAnswer r (listingOf p) in
       FirstOf (planChecks (recordFaults s) short p) (a .number) (a .line)
-      × PlanBuffer p (a .number) (a .length) listing (listingAfter r (listingOf p) listing) × PlacingBuffer p (a .number) placing (gridAfter r (gridFor p) placing)
+      × PlanBuffer p (a .number) (a .length) listing (listingAfter r (listingOf p) listing) × PlacingBuffer p (a .number) placing (placingAfter r (wordsFor p) placing)
   -- The program: what it writes for its input -----------------------------------------------------
 
   pub program : (b : List ℕ) → let r = planRefusal b false in let p = alone (sheetOf b) in
@@ -176,10 +176,10 @@ demand-one =
         yes-for (bytes-checked b) lows highs,
       );
       plan = λ b listing. (first-alone (bytes-checked b) (shortPlan listing), buffer-alone (bytes-checked b) listing);
-      plan-placing = λ b placing. (first-alone (bytes-checked b) (shortGrid placing), refl, placing-alone (bytes-checked b) placing);
+      plan-placing = λ b placing. (first-alone (bytes-checked b) (shortPlacing placing), refl, placing-alone (bytes-checked b) placing);
       plan-both = λ b listing placing.
           let w = both-alone (bytes-checked b) listing placing in
-          (first-alone (bytes-checked b) (shortPlan listing || shortGrid placing), w .0, w .1);
+          (first-alone (bytes-checked b) (shortPlan listing || shortPlacing placing), w .0, w .1);
       plan-number = λ b. (first-alone (bytes-checked b) false, refl);
       causes = λ b out. (
         first-alone (bytes-checked b) (shortCauses out),
@@ -209,7 +209,7 @@ demand-one =
       plan-rations-both = λ slots blowers wake rations listing placing.
           let c = records-checked (recordSheet slots blowers wake rations) in
           let w = both-alone c listing placing in
-          (first-alone c (shortPlan listing || shortGrid placing), w .0, w .1);
+          (first-alone c (shortPlan listing || shortPlacing placing), w .0, w .1);
       program = λ b. (first-alone (bytes-checked b) false, rw (program-front b) (program-text b));
       program-too-long = λ b l. program-front b ∙ Program.program-too-long b l;
       why = λ b. (

@@ -18,11 +18,11 @@ use lib.ListN.{length}
 use Rattle.checks.specs.Refusals.{noPlacing}
 use Rattle.checks.specs.Sheet.{Sheet, sheetOf}
 use Rattle.checks.specs.Checks.{faults}
-use Rattle.plan_lines.specs.Sizes.{planBytes, gridBytes, causesBytes}
-use Rattle.planning.specs.Problem.{alone, MayPlace, listingOf, gridFor}
-use Rattle.planning.specs.Planning.{planRefusalFor, planRefusal, shortPlan, shortGrid, listedAnswer, unlistedAnswer, listingAfter, gridAfter, comparedOf}
+use Rattle.plan_lines.specs.Sizes.{planBytes, placingWords, causesBytes}
+use Rattle.planning.specs.Problem.{alone, MayPlace, listingOf, wordsFor}
+use Rattle.planning.specs.Planning.{planRefusalFor, planRefusal, shortPlan, shortPlacing, listedAnswer, unlistedAnswer, listingAfter, placingAfter, comparedOf}
 use Rattle.planning.specs.ReadListing.{written, linesOf, headLine, stretchPart}
-use Rattle.planning.specs.CallAnswers.{room-plan, room-grid, neither}
+use Rattle.planning.specs.CallAnswers.{room-plan, room-placing, neither}
 use Rattle.causes.specs.CauseCalls.{endingsOf, shortCauses, causesAnswer, causesAfter}
 use Rattle.causes.specs.ReadCauses.{entriesIn, writtenCauses}
 use Rattle.causes.specs.CauseAnswers.{room-causes}
@@ -45,17 +45,17 @@ pub record DemandThree : Type 0 where
       let r = planRefusal b (shortPlan listing) in let a = listedAnswer r (listingOf p) in
       Outcome p (a .number) (written a (listingAfter r (listingOf p) listing))
   -- the feedings marked in the placing buffer are those on the lines
-  pub plan-both : (b listing placing : List ℕ) → let s = sheetOf b in let p = alone s in faults b ≡ [] → planBytes ≤ length listing → gridBytes ≤ length placing →
-      let r = planRefusal b (shortPlan listing || shortGrid placing) in let a = listedAnswer r (listingOf p) in
+  pub plan-both : (b listing placing : List ℕ) → let s = sheetOf b in let p = alone s in faults b ≡ [] → planBytes ≤ length listing → placingWords ≤ length placing →
+      let r = planRefusal b (shortPlan listing || shortPlacing placing) in let a = listedAnswer r (listingOf p) in
       Outcome p (a .number) (written a (listingAfter r (listingOf p) listing))
-      × (a .number ≡ 0 → SamePlacing s (written a (listingAfter r (listingOf p) listing)) (gridAfter r (gridFor p) placing))
+      × (a .number ≡ 0 → SamePlacing s (written a (listingAfter r (listingOf p) listing)) (placingAfter r (wordsFor p) placing))
   -- a call that is lent a placing buffer alone marks a sound placing, that which `plan` lists for the same sheet
-  pub plan-placing : (b placing : List ℕ) → let s = sheetOf b in let p = alone s in faults b ≡ [] → gridBytes ≤ length placing →
-      let r = planRefusal b (shortGrid placing) in let a = unlistedAnswer r in
+  pub plan-placing : (b placing : List ℕ) → let s = sheetOf b in let p = alone s in faults b ≡ [] → placingWords ≤ length placing →
+      let r = planRefusal b (shortPlacing placing) in let a = unlistedAnswer r in
       PlannedOrHeld p (a .number)
-      × (a .number ≡ 0 → MayPlace p (placingIn s (gridAfter r (gridFor p) placing)))
+      × (a .number ≡ 0 → MayPlace p (placingIn s (placingAfter r (wordsFor p) placing)))
       × (a .number ≡ 0 → (listing : List ℕ) → planBytes ≤ length listing → let q = planRefusal b (shortPlan listing) in
-      SamePlacing s (written (listedAnswer q (listingOf p)) (listingAfter q (listingOf p) listing)) (gridAfter r (gridFor p) placing))
+      SamePlacing s (written (listedAnswer q (listingOf p)) (listingAfter q (listingOf p) listing)) (placingAfter r (wordsFor p) placing))
   pub plan-number : (b : List ℕ) → faults b ≡ [] → PlannedOrHeld (alone (sheetOf b)) (unlistedAnswer (planRefusal b false) .number)
   -- the causes' call is held where planning is; it lists the stretches on the lines of the plan that `plan` gives for
   -- the same sheet, those that end before slot D, in settling order, and each cause is the true one
@@ -75,10 +75,10 @@ pub record DemandThree : Type 0 where
       recordFaults s ≡ [] → planBytes ≤ length listing → let r = planRefusalFor (recordFaults s) s (shortPlan listing) in let a = listedAnswer r (listingOf p) in
       Outcome p (a .number) (written a (listingAfter r (listingOf p) listing))
   pub plan-rations-both : (slots blowers wake : ℕ) (rations : List Ration) (listing placing : List ℕ) → let s = recordSheet slots blowers wake rations in let p = alone s in
-      recordFaults s ≡ [] → planBytes ≤ length listing → gridBytes ≤ length placing →
-      let r = planRefusalFor (recordFaults s) s (shortPlan listing || shortGrid placing) in let a = listedAnswer r (listingOf p) in
+      recordFaults s ≡ [] → planBytes ≤ length listing → placingWords ≤ length placing →
+      let r = planRefusalFor (recordFaults s) s (shortPlan listing || shortPlacing placing) in let a = listedAnswer r (listingOf p) in
       Outcome p (a .number) (written a (listingAfter r (listingOf p) listing))
-      × (a .number ≡ 0 → SamePlacing s (written a (listingAfter r (listingOf p) listing)) (gridAfter r (gridFor p) placing))
+      × (a .number ≡ 0 → SamePlacing s (written a (listingAfter r (listingOf p) listing)) (placingAfter r (wordsFor p) placing))
   -- The program -----------------------------------------------------------------------------------
 
   -- its whole output is the listing
@@ -107,19 +107,19 @@ demand-three =
           outcome-of formed _ g (shortPlan listing) e _ (written-listing formed _ g (shortPlan listing) e listing);
       plan-both = λ b listing placing formed l k.
           let g = bytes-in-range b formed in
-          let short = shortPlan listing || shortGrid placing in
-          let e = neither (shortPlan listing) (shortGrid placing) (room-plan listing l) (room-grid placing k) in
+          let short = shortPlan listing || shortPlacing placing in
+          let e = neither (shortPlan listing) (shortPlacing placing) (room-plan listing l) (room-placing placing k) in
           let w = written-listing formed _ g short e listing in
           (outcome-of formed _ g short e _ w, marks-of formed _ g short e _ placing w);
       plan-placing = λ b placing formed k.
           let p = alone (sheetOf b) in
           let g = bytes-in-range b formed in
-          let e = room-grid placing k in
-          let o = outcome-of formed p g (shortGrid placing) e _ refl in (
+          let e = room-placing placing k in
+          let o = outcome-of formed p g (shortPlacing placing) e _ refl in (
             o .planned-or-held,
-            λ n. subst (MayPlace p) (sym (marks-of formed p g (shortGrid placing) e _ placing refl n)) (o .plan n .sound),
+            λ n. subst (MayPlace p) (sym (marks-of formed p g (shortPlacing placing) e _ placing refl n)) (o .plan n .sound),
             λ n listing l.
-                marks-of formed p g (shortGrid placing) e _ placing (written-listing formed p g (shortPlan listing) (room-plan listing l) listing) n,
+                marks-of formed p g (shortPlacing placing) e _ placing (written-listing formed p g (shortPlan listing) (room-plan listing l) listing) n,
           );
       plan-number = λ b formed. outcome-of formed _ (bytes-in-range b formed) false refl _ refl .planned-or-held;
       causes = λ b out formed l.
@@ -136,8 +136,8 @@ demand-three =
           outcome-of formed _ g (shortPlan listing) e _ (written-listing formed _ g (shortPlan listing) e listing);
       plan-rations-both = λ slots blowers wake rations listing placing formed l k.
           let g = records-in-range (recordSheet slots blowers wake rations) formed in
-          let short = shortPlan listing || shortGrid placing in
-          let e = neither (shortPlan listing) (shortGrid placing) (room-plan listing l) (room-grid placing k) in
+          let short = shortPlan listing || shortPlacing placing in
+          let e = neither (shortPlan listing) (shortPlacing placing) (room-plan listing l) (room-placing placing k) in
           let w = written-listing formed _ g short e listing in
           (outcome-of formed _ g short e _ w, marks-of formed _ g short e _ placing w);
       program = λ b formed.

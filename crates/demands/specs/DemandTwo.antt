@@ -21,11 +21,11 @@ use Rattle.common.specs.Buffers.{over}
 use Rattle.schedules.specs.Demands.{demandsOf}
 use Rattle.method.specs.Method.{dayBounds}
 use Rattle.method.specs.Worded.{settleAllWorded, runsWorded, boundsWorded}
-use Rattle.plan_lines.specs.Sizes.{planBytes, gridBytes, causesBytes}
-use Rattle.planning.specs.Problem.{alone, listingOf, gridFor}
-use Rattle.planning.specs.Planning.{planRefusalFor, planRefusal, shortPlan, shortGrid, listedAnswer, unlistedAnswer, listingAfter, gridAfter, comparedOf}
+use Rattle.plan_lines.specs.Sizes.{planBytes, placingWords, causesBytes}
+use Rattle.planning.specs.Problem.{alone, listingOf, wordsFor}
+use Rattle.planning.specs.Planning.{planRefusalFor, planRefusal, shortPlan, shortPlacing, listedAnswer, unlistedAnswer, listingAfter, placingAfter, comparedOf}
 use Rattle.planning.specs.ReadListing.{written, linesOf}
-use Rattle.planning.specs.CallAnswers.{room-plan, room-grid, neither}
+use Rattle.planning.specs.CallAnswers.{room-plan, room-placing, neither}
 use Rattle.planning.specs.ProblemLaws.{may-planned}
 use Rattle.causes.specs.CauseCalls.{endingsOf, shortCauses, causesAnswer, causesAfter}
 use Rattle.causes.specs.ReadCauses.{entriesIn, writtenCauses}
@@ -49,13 +49,13 @@ pub record DemandTwo : Type 0 where
   pub plan : (b listing : List ℕ) → let p = alone (sheetOf b) in faults b ≡ [] → HasPlacing p → planBytes ≤ length listing →
       let r = planRefusal b (shortPlan listing) in let a = listedAnswer r (listingOf p) in
       (a .number ≡ 0) × ByMethod p (linesOf (written a (listingAfter r (listingOf p) listing)))
-  pub plan-both : (b listing placing : List ℕ) → let p = alone (sheetOf b) in faults b ≡ [] → HasPlacing p → planBytes ≤ length listing → gridBytes ≤ length placing →
-      let r = planRefusal b (shortPlan listing || shortGrid placing) in let a = listedAnswer r (listingOf p) in
+  pub plan-both : (b listing placing : List ℕ) → let p = alone (sheetOf b) in faults b ≡ [] → HasPlacing p → planBytes ≤ length listing → placingWords ≤ length placing →
+      let r = planRefusal b (shortPlan listing || shortPlacing placing) in let a = listedAnswer r (listingOf p) in
       (a .number ≡ 0) × ByMethod p (linesOf (written a (listingAfter r (listingOf p) listing)))
-      × ChosenByMethod p (placingIn (sheetOf b) (gridAfter r (gridFor p) placing))
-  pub plan-placing : (b placing : List ℕ) → let p = alone (sheetOf b) in faults b ≡ [] → HasPlacing p → gridBytes ≤ length placing →
-      let r = planRefusal b (shortGrid placing) in
-      (unlistedAnswer r .number ≡ 0) × ChosenByMethod p (placingIn (sheetOf b) (gridAfter r (gridFor p) placing))
+      × ChosenByMethod p (placingIn (sheetOf b) (placingAfter r (wordsFor p) placing))
+  pub plan-placing : (b placing : List ℕ) → let p = alone (sheetOf b) in faults b ≡ [] → HasPlacing p → placingWords ≤ length placing →
+      let r = planRefusal b (shortPlacing placing) in
+      (unlistedAnswer r .number ≡ 0) × ChosenByMethod p (placingIn (sheetOf b) (placingAfter r (wordsFor p) placing))
   pub plan-number : (b : List ℕ) → faults b ≡ [] → HasPlacing (alone (sheetOf b)) → unlistedAnswer (planRefusal b false) .number ≡ 0
   -- the same day where D and every slot's count agree
   pub compare : (a b : List ℕ) → let p = alone (sheetOf a) in let q = alone (sheetOf b) in
@@ -71,9 +71,9 @@ pub record DemandTwo : Type 0 where
       recordFaults s ≡ [] → HasPlacing p → planBytes ≤ length listing → let r = planRefusalFor (recordFaults s) s (shortPlan listing) in let a = listedAnswer r (listingOf p) in
       (a .number ≡ 0) × ByMethod p (linesOf (written a (listingAfter r (listingOf p) listing)))
   pub plan-rations-both : (slots blowers wake : ℕ) (rations : List Ration) (listing placing : List ℕ) → let s = recordSheet slots blowers wake rations in let p = alone s in
-      recordFaults s ≡ [] → HasPlacing p → planBytes ≤ length listing → gridBytes ≤ length placing →
-      let r = planRefusalFor (recordFaults s) s (shortPlan listing || shortGrid placing) in let a = listedAnswer r (listingOf p) in
-      (a .number ≡ 0) × ByMethod p (linesOf (written a (listingAfter r (listingOf p) listing))) × ChosenByMethod p (placingIn s (gridAfter r (gridFor p) placing))
+      recordFaults s ≡ [] → HasPlacing p → planBytes ≤ length listing → placingWords ≤ length placing →
+      let r = planRefusalFor (recordFaults s) s (shortPlan listing || shortPlacing placing) in let a = listedAnswer r (listingOf p) in
+      (a .number ≡ 0) × ByMethod p (linesOf (written a (listingAfter r (listingOf p) listing))) × ChosenByMethod p (placingIn s (placingAfter r (wordsFor p) placing))
   -- The program: what it writes -------------------------------------------------------------------
 
   pub program : (b : List ℕ) → let p = alone (sheetOf b) in faults b ≡ [] → HasPlacing p → ByMethod p (linesOf (programText b))
@@ -119,13 +119,13 @@ demand-two =
           (number-is formed _ g has (shortPlan listing) e, listed-by-method formed _ g has (shortPlan listing) e listing);
       plan-both = λ b listing placing formed has l k.
           let g = bytes-in-range b formed in
-          let short = shortPlan listing || shortGrid placing in
-          let e = neither (shortPlan listing) (shortGrid placing) (room-plan listing l) (room-grid placing k) in
+          let short = shortPlan listing || shortPlacing placing in
+          let e = neither (shortPlan listing) (shortPlacing placing) (room-plan listing l) (room-placing placing k) in
           (number-is formed _ g has short e, listed-by-method formed _ g has short e listing, marked-by-method formed _ g has short e placing);
       plan-placing = λ b placing formed has k.
           let g = bytes-in-range b formed in
-          let e = room-grid placing k in
-          (number-is formed _ g has (shortGrid placing) e, marked-by-method formed _ g has (shortGrid placing) e placing);
+          let e = room-placing placing k in
+          (number-is formed _ g has (shortPlacing placing) e, marked-by-method formed _ g has (shortPlacing placing) e placing);
       plan-number = λ b formed has. number-is formed _ (bytes-in-range b formed) has false refl;
       compare = λ a b f p g q.
           let z = both-planned a b f p g q in
@@ -141,8 +141,8 @@ demand-two =
           (number-is formed _ g has (shortPlan listing) e, listed-by-method formed _ g has (shortPlan listing) e listing);
       plan-rations-both = λ slots blowers wake rations listing placing formed has l k.
           let g = records-in-range (recordSheet slots blowers wake rations) formed in
-          let short = shortPlan listing || shortGrid placing in
-          let e = neither (shortPlan listing) (shortGrid placing) (room-plan listing l) (room-grid placing k) in
+          let short = shortPlan listing || shortPlacing placing in
+          let e = neither (shortPlan listing) (shortPlacing placing) (room-plan listing l) (room-placing placing k) in
           (number-is formed _ g has short e, listed-by-method formed _ g has short e listing, marked-by-method formed _ g has short e placing);
       program = λ b formed has.
           subst (λ x. ByMethod (alone (sheetOf b)) (linesOf x)) (sym (program-front b ∙ program-writes b formed []))

@@ -12,7 +12,6 @@ pub mod Outcome
 pub mod ByMethod
 pub mod Causes
 -- Laws
-pub mod GridLaws
 pub mod AnswerLaws
 pub mod OutcomeLaws
 pub mod ByMethodLaws

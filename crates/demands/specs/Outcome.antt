@@ -1,8 +1,8 @@
 -- What demand 3 asks of one call: first its words, as document 01 explains them, then what is asked of the number that
--- a planning call gives, the lines of the listing in its plan buffer and the bytes of its placing buffer. All is said
+-- a planning call gives, the lines of the listing in its plan buffer and the words of its placing buffer. All is said
 -- of a problem (Problem.antt of `planning`): for a sheet planned alone what is left is what its rations ask, the room
 -- left is m in every slot, and any sound placing may be taken (`AloneIs`, a field of each demand). ReadListing.antt of
--- `planning` says how lines and bytes are read. Nothing here says how a plan is found; that the calls meet it is demand
+-- `planning` says how lines are read, Inputs.antt of `plan_lines` how words are. Nothing here says how a plan is found; that the calls meet it is demand
 -- 3, DemandThree.antt. Definitions only. Assumes nothing.
 use mathlib.Core.Path.{_≡_}
 use mathlib.Core.Logic.{_⊎_, _↔_}
@@ -25,8 +25,9 @@ use Rattle.energy.specs.Energy.{starts, energy}
 use Rattle.plan_lines.specs.Sizes.{wordBytes}
 use Rattle.plan_lines.specs.Lines.{Line, billLine, membersFrom}
 use Rattle.plan_lines.specs.Text.{planWord, heldWord}
+use Rattle.plan_lines.specs.Inputs.{placingOf}
 use Rattle.planning.specs.Problem.{Problem, alone, left, room, MayPlace}
-use Rattle.planning.specs.ReadListing.{linesOf, headLine, slotsShown, slotSet, stretchPart, feedPart, billOn, chargeOn, stretchesOn, inSlot, ofTank, ofMeal, placingOn, placingMarked}
+use Rattle.planning.specs.ReadListing.{linesOf, headLine, slotsShown, slotSet, stretchPart, feedPart, billOn, chargeOn, stretchesOn, inSlot, ofTank, ofMeal, placingOn}
 
 -- The demand's words -----------------------------------------------------------------------
 
@@ -130,10 +131,11 @@ pub record Outcome (p : Problem) (number : ℕ) (listing : List ℕ) : Type 0 wh
   pub plan : number ≡ 0 → SoundPlan p (stretchPart (linesOf listing)) (placingOn (p .sheet .slots) (p .sheet .jobs) (feedPart (linesOf listing)))
   pub plan-lines : number ≡ 0 → LinesOf (p .sheet) (linesOf listing) (placingOn (p .sheet .slots) (p .sheet .jobs) (feedPart (linesOf listing)))
 
--- the placing that is marked in a placing buffer
-abbrev pub placingIn : Sheet → (grid : List ℕ) → Schedule
-placingIn s grid = placingMarked (s .slots) (length (s .jobs)) grid
+-- the placing that is marked in the words of a placing buffer: ration i is fed in slot t where bit i − 1 of word t − 1
+-- is 1
+abbrev pub placingIn : Sheet → (words : List ℕ) → Schedule
+placingIn s words = placingOf (s .slots) (length (s .jobs)) words
 
 -- the feedings marked in a placing buffer are those on the lines of a listing
-abbrev pub SamePlacing : Sheet → (listing grid : List ℕ) → Type 0
-SamePlacing s listing grid = placingIn s grid ≡ placingOn (s .slots) (s .jobs) (feedPart (linesOf listing))
+abbrev pub SamePlacing : Sheet → (listing words : List ℕ) → Type 0
+SamePlacing s listing words = placingIn s words ≡ placingOn (s .slots) (s .jobs) (feedPart (linesOf listing))

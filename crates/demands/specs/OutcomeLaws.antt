@@ -30,19 +30,20 @@ use Rattle.method.specs.Theorems.{counts-keep}
 use Rattle.plan_lines.specs.Sizes.{wordBytes}
 use Rattle.plan_lines.specs.Lines.{Line, stretchLines, billLine, planLines, membersFrom, heldLines}
 use Rattle.plan_lines.specs.Text.{writeLines, heldWord, heldText}
+use Rattle.plan_lines.specs.Inputs.{placingOf}
 use Rattle.planning.specs.AloneLaws.{room-alone-at}
-use Rattle.planning.specs.Problem.{Problem, SoundPlacing, alone, ProblemInRange, canBePlanned, feedingsOf, countsOf, shownSet, planWith, listingOf, gridFor}
-use Rattle.planning.specs.Planning.{planChecks, listedAnswer, listingAfter, gridAfter}
-use Rattle.planning.specs.ReadListing.{written, tanks, linesOf, headLine, slotsShown, slotSet, stretchPart, feedPart, chargeOn, stretchesOn, inSlot, isOf, ofMeal, placingOn, placingMarked}
+use Rattle.planning.specs.Problem.{Problem, SoundPlacing, alone, ProblemInRange, canBePlanned, feedingsOf, countsOf, shownSet, planWith, listingOf, wordsFor}
+use Rattle.planning.specs.Planning.{planChecks, listedAnswer, listingAfter, placingAfter}
+use Rattle.planning.specs.ReadListing.{written, tanks, linesOf, headLine, slotsShown, slotSet, stretchPart, feedPart, chargeOn, stretchesOn, inSlot, isOf, ofMeal, placingOn}
 use Rattle.planning.specs.ReadLaws.{linesOf-written}
 use Rattle.planning.specs.SlotSetLaws.{length-slotSet, slotSet-members, slots-memberLines}
 use Rattle.planning.specs.StretchLineLaws.{stretchesOn-lines, chargeOn-lines, on-lines, listed-counts, counts-listed}
 use Rattle.planning.specs.FeedLineLaws as Feed
+use Rattle.planning.specs.InputLaws.{placingOf-words}
 use Rattle.planning.specs.PlacingLaws.{placing-rows, length-placing, tanks-placing, placing-volume, own-lines}
 use Rattle.planning.specs.FitLaws.{sum-same}
-use Rattle.planning.specs.WrittenLaws.{number-planned, number-held, listing-written, grid-written, writes-planned, writes-held, word-plan, lines-plan, whole-plan, head-plan, stretchPart-plan, feedPart-plan, bill-plan, placing-on}
-use Rattle.planning.specs.ProblemLaws.{heldLinesOf, windows-left, length-room, planned-may, may-planned, feedings-may, feedings-sound, counts-stop, length-shownSet, shown-late, fit-held, listing-plan, listing-held, grid-plan}
-use Rattle.demands.specs.GridLaws.{placingMarked-written}
+use Rattle.planning.specs.WrittenLaws.{number-planned, number-held, listing-written, placing-written, writes-planned, writes-held, word-plan, lines-plan, whole-plan, head-plan, stretchPart-plan, feedPart-plan, bill-plan, placing-on}
+use Rattle.planning.specs.ProblemLaws.{heldLinesOf, windows-left, length-room, planned-may, may-planned, feedings-may, feedings-sound, counts-stop, length-shownSet, shown-late, fit-held, listing-plan, listing-held, words-plan}
 use Rattle.demands.specs.Outcome.{Shortage, SoundPlan, LinesOf, Outcome, placingIn, SamePlacing}
 
 -- The lines of a plan with any sound placing ------------------------------------------------------------
@@ -176,10 +177,10 @@ module _ (p : Problem) (g : ProblemInRange p) where
           }
 
     -- the placing marked in a placing buffer is that of the method too
-    pub marked-feedings : (grid old : List ℕ) → grid ≡ over (gridFor p) old → placingIn s grid ≡ feedingsOf p
-    marked-feedings grid old h =
-        ap₂ (placingMarked (s .slots)) (sym (length-placing s (feedingsOf p) feedings-are)) (h ∙ ap (λ x. over x old) (grid-plan p can))
-        ∙ placingMarked-written (s .slots) (v .head .slots .le) (feedingsOf p) (placing-rows s (feedingsOf p) feedings-are) old
+    pub marked-feedings : (words old : List ℕ) → words ≡ over (wordsFor p) old → placingIn s words ≡ feedingsOf p
+    marked-feedings words old h =
+        ap₂ (placingOf (s .slots)) (sym (length-placing s (feedingsOf p) feedings-are)) (h ∙ ap (λ x. over x old) (words-plan p can))
+        ∙ placingOf-words (s .slots) (v .head .slots .le) (feedingsOf p) (placing-rows s (feedingsOf p) feedings-are) old
 
 -- Calls that plan, lent buffers that are long enough ------------------------------------------------
 
@@ -203,11 +204,11 @@ module _ {own : List Refusal} (formed : own ≡ []) (p : Problem) (g : ProblemIn
       go true e = outcome-planned p g e text w (r .number) (number-planned p formed short enough e)
       go false e = outcome-held p g e (r .number) text (number-held p formed short enough e) w
 
-  pub marks-of : (text grid : List ℕ) → text ≡ listingOf p → r .number ≡ 0 → SamePlacing (p .sheet) text (gridAfter r (gridFor p) grid)
-  marks-of text grid w n = go (canBePlanned p) refl
+  pub marks-of : (text placing : List ℕ) → text ≡ listingOf p → r .number ≡ 0 → SamePlacing (p .sheet) text (placingAfter r (wordsFor p) placing)
+  marks-of text placing w n = go (canBePlanned p) refl
     where
-      go : (c : Bool) → canBePlanned p ≡ c → SamePlacing (p .sheet) text (gridAfter r (gridFor p) grid)
-      go true e = marked-feedings p g e (gridAfter r (gridFor p) grid) grid (grid-written r (gridFor p) grid (writes-planned (r .number) n)) ∙ sym (placing-listed p g e text w)
+      go : (c : Bool) → canBePlanned p ≡ c → SamePlacing (p .sheet) text (placingAfter r (wordsFor p) placing)
+      go true e = marked-feedings p g e (placingAfter r (wordsFor p) placing) placing (placing-written r (wordsFor p) placing (writes-planned (r .number) n)) ∙ sym (placing-listed p g e text w)
       go false e = absurd (omega (arith, n, number-held p formed short enough e))
 
 -- A sheet planned alone ------------------------------------------------------------------------------

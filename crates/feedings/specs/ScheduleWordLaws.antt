@@ -11,7 +11,7 @@ use lib.ListN.{length, getD}
 use Rattle.theory.specs.Sums.{sum, sum-cong}
 use Rattle.theory.specs.SumsOver.{one, one-inj}
 use Rattle.theory.specs.Placing.{count}
-use Rattle.common.specs.Bits.{bit, bit-none, bit-le, add-same, add-other}
+use Rattle.common.specs.Bits.{bit, bit-below, add-same, add-other}
 use Rattle.loads.specs.Meaning.{bitAt}
 use Rattle.loads.specs.MeaningLaws.{one-bitAt, ones-sum}
 use Rattle.schedules.specs.Schedules.{Demand, Schedule, Windows, Sound}
@@ -19,10 +19,6 @@ use Rattle.schedules.specs.Schedules.{load as loadOf}
 use Rattle.schedules.specs.AsFunctions.{fed, listed, Rows, load-as}
 use Rattle.schedules.specs.Tabulate.{tab-unique}
 use Rattle.feedings.specs.CellChoice.{RowWord, ScheduleWords, Decided, MayFeed, FedBit}
-
--- a number below 2 ^ j does not have the bit j
-pub bit-below : (w j : ℕ) → w < 2 ^ j → bit w j ≡ 0
-bit-below w j h = bit-none w j (λ e. omega (arith, bit-le w j e))
 
 -- a bit below j, or j
 below-cases : (P : ℕ → Type 0) (j : ℕ) → P j → ((i : ℕ) → i < j → P i) → (i : ℕ) → i < suc j → P i

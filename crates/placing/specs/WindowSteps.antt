@@ -4,7 +4,7 @@ use mathlib.Core.Logic.{_≢_}
 use mathlib.Core.Bool.{Bool, true, false, _&&_}
 use mathlib.Core.List.{List}
 use Prim.Native.Nat.{ℕ, suc, _+_, _-_, _^_, _≤_, _<_}
-use native.Mathlib.Nat.{pow-succ', div-eq-of-lt, add-zero}
+use native.Mathlib.Nat.{pow-succ', add-zero}
 use native.Mathlib.Decide.{ℕ-discrete}
 use native.Mathlib.Numerals.{add-one}
 use native.Mathlib.Omega.{arith}
@@ -12,7 +12,7 @@ use lib.Dec.{leb, ltb}
 use lib.ListN.{length, getD, set, replicate, length-set, length-replicate}
 use lib.Seq.{getD-set-same, getD-set-other}
 use borrow.Author.Tests.{le-leb, lt-leb, leb-true, lt-ltb, le-ltb, ltb-true, ltb-false}
-use Rattle.common.specs.Bits.{bit, add-same, add-other}
+use Rattle.common.specs.Bits.{bit, bit-below, add-same, add-other}
 use Rattle.checks.specs.Limits.{maxSlots, maxRations}
 use Rattle.theory.specs.SumsOver.{one, pick}
 use Rattle.schedules.specs.Slots.{has, window}
@@ -37,10 +37,6 @@ pick-false b x y e = rw e (sym (add-zero x))
 and-second-false : (a : Bool) {b : Bool} → (a ≡ true → b ≡ false) → (a && b) ≡ false
 and-second-false true h = h refl
 and-second-false false h = refl
-
-bit-below : (w j : ℕ) → w < 2 ^ j → bit w j ≡ 0
-unfolding bit
-bit-below w j h = rw (div-eq-of-lt h)
 
 module _ (W : List ℕ) (j release deadline : ℕ) (h : CanMark W j release deadline) where
   pub mark-begin : MarkedTo j release deadline (release - 1) W W

@@ -10,8 +10,8 @@ pub fn write_planned(operation: &[u8], number: u32, line: u32, length: usize) {
 }
 
 // Writes `D` and the digest of a whole buffer.
-pub fn write_digest(buffer: &[u8]) {
+pub fn write_digest(digest: u32) {
     io::write_all(1, b"D");
-    cases::word(cases::digest(buffer));
+    cases::word(digest);
     cases::end_line();
 }

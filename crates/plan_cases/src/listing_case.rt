@@ -5,7 +5,7 @@ fn plan(sheet: &[u8], buffer: &mut [u8]) {
     cases::fill(buffer);
     let r = planning::plan(sheet, buffer);
     answers::write_planned(b"P", r.number, r.line, r.length);
-    answers::write_digest(buffer);
+    answers::write_digest(cases::digest(buffer));
 }
 
 // Lends so many bytes of the room.

@@ -1,14 +1,15 @@
 // Answers a stream of cases on standard input by the planning calls of the crate `planning`, for comparison with the answers of a second implementation.
 //
 // A payload has two parts, the first as long as the case's number says; the second is a sheet.
-// Operation P plans with a plan buffer, G with a placing buffer, B with both and N with none: the first part holds the buffers' lengths, one a line.
+// Operation P plans with a plan buffer, G with a placing buffer, B with both and N with none: the first part holds the buffers' lengths,
+// one a line, that of a placing buffer in words.
 // Operation C compares the sheet that is the first part with the second.
 mod answers;
 mod both_case;
 mod compare_case;
-mod grid_case;
 mod listing_case;
 mod none_case;
+mod placing_case;
 
 // Answers one case.
 fn answer(operation: u8, first: &[u8], second: &[u8]) {
@@ -16,7 +17,7 @@ fn answer(operation: u8, first: &[u8], second: &[u8]) {
         listing_case::answer(first, second);
     }
     if operation == b'G' {
-        grid_case::answer(first, second);
+        placing_case::answer(first, second);
     }
     if operation == b'B' {
         both_case::answer(first, second);

@@ -10,6 +10,7 @@ use lib.Count.{ones, ones-step}
 use lib.Dec.{eqb}
 use lib.ListN.{length, getD, length-append, length-map}
 use Rattle.common.specs.Lists.{range, flatMap, zipWith}
+use Rattle.common.specs.ListLaws.{getD-map-range}
 use Rattle.method.specs.Intervals.{intervals}
 use Rattle.energy.specs.EnergyLaws.{length-intervals}
 use Rattle.plan_lines.specs.Lines.{Line, stretchLine, blowerLines, stretchLines, partAt, slotLines, feedLines}
@@ -46,16 +47,11 @@ length-setBits-ones (suc n) j w h = go (w % 2) refl (length-setBits-ones n (suc 
     go (suc zero) e ih = omega (arith, ones-step w)
     go (suc (suc r)) e ih = absurd (omega arith)
 
-pub getD-map-range : (f : ℕ → ℕ) (a n j : ℕ) → j < n → getD (map f (range a n)) j 0 ≡ f (a + j)
-getD-map-range f a zero j l = absurd (omega arith)
-getD-map-range f a (suc n) zero l = ap f (omega arith)
-getD-map-range f a (suc n) (suc j) l = getD-map-range f (suc a) n j (omega arith) ∙ ap f (omega arith)
-
 -- a slot has a line for each bit of its word
 pub length-slotLines-word : (slots n : ℕ) (numbers words : List ℕ) (t : ℕ) → t < slots → slots ≤ length words → getD words t 0 < 2 ^ n
     → length (slotLines t (zipWith (λ a c. (a, c)) (tanksOf n numbers) (placingOf slots n words))) ≡ ones (getD words t 0)
 length-slotLines-word slots n numbers words t h l few =
-    ap length (slotLines-word slots words t h l numbers parts n (λ j k. getD-map-range (λ i. partAt t (rowOf slots words i)) 0 n j k ∙ ap (λ i. partAt t (rowOf slots words i)) (omega arith)))
+    ap length (slotLines-word slots words t h l numbers parts n (getD-map-range (λ i. partAt t (rowOf slots words i)) 0 n))
     ∙ length-wordLines (suc t) numbers parts 1 (setBits 0 n (getD words t 0))
     ∙ length-setBits-ones n 0 (getD words t 0) few
   where

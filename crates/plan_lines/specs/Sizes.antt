@@ -1,8 +1,8 @@
--- The sizes of the buffers that the calls which plan are lent, as document 01 and requests 103 and 105 give them;
--- src/sizes.rt names the same for the code. Assumes nothing.
+-- The sizes of the buffers that the calls which plan are lent, as document 01 and requests 103, 105 and 106 give
+-- them; src/sizes.rt names the same for the code. Assumes nothing.
 use Prim.Native.Nat.{ℕ, _+_, _*_}
 use Rattle.line.specs.Layout.{lineBytes}
-use Rattle.checks.specs.Limits.{maxSlots, maxBlowers, maxRations}
+use Rattle.checks.specs.Limits.{maxSlots, maxBlowers}
 
 -- bytes of the word that opens a listing, with its byte 10
 abbrev pub wordBytes : ℕ
@@ -13,9 +13,9 @@ wordBytes = 5
 abbrev pub planBytes : ℕ
 planBytes = wordBytes + lineBytes * (2 + 2 * (maxSlots * maxBlowers))
 
--- the least length of a placing buffer, 6,144: a byte for each slot of each ration
-abbrev pub gridBytes : ℕ
-gridBytes = maxSlots * maxRations
+-- the least length of a placing buffer, 96 words: one for each slot
+abbrev pub placingWords : ℕ
+placingWords = maxSlots
 
 -- the least length of a causes' buffer, and the most that their listing takes
 abbrev pub causesBytes : ℕ

@@ -1,15 +1,10 @@
--- The text of a listing, and the bytes of the placing buffer. Definitions only. Assumes nothing.
-use mathlib.Core.Bool.{cond}
-use mathlib.Core.List.{List, [], _∷_, _++_, map}
+-- The text of a listing. Definitions only. Assumes nothing.
+use mathlib.Core.List.{List, [], _∷_, _++_}
 use Prim.Native.Nat.{ℕ}
 use Rattle.common.specs.Lists.{flatMap}
 use Rattle.line.specs.Layout.{newline}
-use Rattle.checks.specs.Limits.{maxSlots}
 use Rattle.line.specs.Line.{writeLine}
-use Rattle.common.specs.Buffers.{padded}
 use Rattle.schedules.specs.Slots.{Slots}
-use Rattle.schedules.specs.Schedules.{Schedule}
-use Rattle.plan_lines.specs.Sizes.{gridBytes}
 use Rattle.plan_lines.specs.Lines.{Line, line, Plan, planLines, heldLines}
 
 -- lines in the sheet's form
@@ -34,15 +29,3 @@ heldText q forced capacity = heldWord ++ writeLines (heldLines q forced capacity
 -- any other refusal: its number, the sheet line that it names, 0, 0
 unfoldable pub refusalText : (number line : ℕ) → List ℕ
 refusalText number l = heldWord ++ writeLines (line number l 0 0 ∷ [])
-
--- 1 for a slot in which a ration is fed, else 0
-unfoldable pub bytesOf : Slots → List ℕ
-bytesOf = map (λ b. cond b 1 0)
-
--- the placing buffer's bytes of one ration
-unfoldable pub rowBytes : Slots → List ℕ
-rowBytes c = padded maxSlots (bytesOf c)
-
--- the placing buffer's bytes: byte (i − 1) × 96 + t − 1 is 1 if ration i is fed in slot t, else 0
-unfoldable pub gridOf : Schedule → List ℕ
-gridOf p = padded gridBytes (flatMap rowBytes p)

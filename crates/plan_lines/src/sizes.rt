@@ -9,8 +9,8 @@ pub const WORD: usize = 5;
 // slot of each blower, and the bill's line
 pub const PLAN_BYTES: usize = WORD + LINE * (2 + 2 * (96 * 8));
 
-// the least length of a placing buffer, 6,144: a byte for each slot of each ration
-pub const GRID_BYTES: usize = 96 * 64;
+// the least length of a placing buffer, 96 words: one for each slot
+pub const PLACING_WORDS: usize = 96;
 
 // the least length of a causes' buffer, and the most that their listing takes
 pub const CAUSES_BYTES: usize = 65536;

@@ -15,10 +15,10 @@ use Rattle.common.specs.Buffers.{over}
 use Rattle.sheet.specs.OwnChecks.{ReadFrom}
 use Rattle.sheet.specs.OwnCheckLaws.{refused-before, accepted-before, not-held}
 use Rattle.stretches.specs.declared.Day.{Day}
-use Rattle.plan_lines.specs.Sizes.{planBytes, gridBytes}
+use Rattle.plan_lines.specs.Sizes.{planBytes, placingWords}
 use Rattle.listing.specs.Opening.{Written}
-use Rattle.planning.specs.Problem.{Problem, canBePlanned, listingOf, gridFor}
-use Rattle.planning.specs.Planning.{heldFaults, planChecks, shortPlan, shortGrid, writes, listedAnswer, unlistedAnswer, listingAfter, gridAfter}
+use Rattle.planning.specs.Problem.{Problem, canBePlanned, listingOf, wordsFor}
+use Rattle.planning.specs.Planning.{heldFaults, planChecks, shortPlan, shortPlacing, writes, listedAnswer, unlistedAnswer, listingAfter, placingAfter}
 use Rattle.planning.specs.Contracts.{DayOf, NumberOf, Listed}
 
 -- ---- the buffers' lengths
@@ -31,13 +31,13 @@ pub room-plan : (out : List ℕ) → planBytes ≤ length out → shortPlan out 
 unfolding shortPlan
 room-plan out l = le-ltb (length out) planBytes l
 
-pub short-grid : (out : List ℕ) → length out < gridBytes → shortGrid out ≡ true
-unfolding shortGrid
-short-grid out l = lt-ltb (length out) gridBytes l
+pub short-placing : (out : List ℕ) → length out < placingWords → shortPlacing out ≡ true
+unfolding shortPlacing
+short-placing out l = lt-ltb (length out) placingWords l
 
-pub room-grid : (out : List ℕ) → gridBytes ≤ length out → shortGrid out ≡ false
-unfolding shortGrid
-room-grid out l = le-ltb (length out) gridBytes l
+pub room-placing : (out : List ℕ) → placingWords ≤ length out → shortPlacing out ≡ false
+unfolding shortPlacing
+room-placing out l = le-ltb (length out) placingWords l
 
 pub neither : (x y : Bool) → x ≡ false → y ≡ false → (x || y) ≡ false
 neither x y e f = rw (e, f)
@@ -59,9 +59,9 @@ module _ (f : Refusal) (silent : writes (f .number) ≡ false) where
   unfolding listedAnswer listingAfter
   listed-nothing listing old = (rw silent, rw silent)
 
-  pub placed-nothing : (grid old : List ℕ) → old ≡ gridAfter f grid old
-  unfolding gridAfter
-  placed-nothing grid old = rw silent
+  pub placed-nothing : (words old : List ℕ) → old ≡ placingAfter f words old
+  unfolding placingAfter
+  placed-nothing words old = rw silent
 
 -- a listing written, and a placing
 module _ (f : Refusal) (loud : writes (f .number) ≡ true) where
@@ -69,9 +69,9 @@ module _ (f : Refusal) (loud : writes (f .number) ≡ true) where
   unfolding listedAnswer listingAfter
   listed-text listing w = (rw loud (λ i. record { number = f .number; line = f .line; length = w .size i }), rw loud (w .bytes))
 
-  placed-bytes : (grid old new : List ℕ) → new ≡ over grid old → new ≡ gridAfter f grid old
-  unfolding gridAfter
-  placed-bytes grid old new w = rw loud w
+  placed-words : (words old new : List ℕ) → new ≡ over words old → new ≡ placingAfter f words old
+  unfolding placingAfter
+  placed-words words old new w = rw loud w
 
 unlisted : (f : Refusal) → record { number = f .number; line = f .line; length = 0 } ≡ unlistedAnswer f
 unfolding unlistedAnswer
@@ -103,8 +103,8 @@ module _ {own : List Refusal} {s : Sheet} {r : Reading} (h : ReadFrom own s r) (
     pub listed-read : (listing old : List ℕ) → Listed refusal listing old old (record { number = r .number; line = r .line; length = 0 })
     listed-read listing old = subst (λ f. Listed f listing old old (record { number = r .number; line = r .line; length = 0 })) by-read (listed-nothing read silent listing old)
 
-    pub placed-read : (grid old : List ℕ) → old ≡ gridAfter refusal grid old
-    placed-read grid old = subst (λ f. old ≡ gridAfter f grid old) by-read (placed-nothing read silent grid old)
+    pub placed-read : (words old : List ℕ) → old ≡ placingAfter refusal words old
+    placed-read words old = subst (λ f. old ≡ placingAfter f words old) by-read (placed-nothing read silent words old)
 
     pub unlisted-read : record { number = r .number; line = r .line; length = 0 } ≡ unlistedAnswer refusal
     unlisted-read = unlisted read ∙ ap unlistedAnswer by-read
@@ -126,9 +126,9 @@ module _ {own : List Refusal} {s : Sheet} {r : Reading} (h : ReadFrom own s r) (
       unfolding writes
       listed-short listing old = subst (λ f. Listed f listing old old (record { number = shortBuffer; line = 0; length = 0 })) by-short (listed-nothing tooShort refl listing old)
 
-      pub placed-short : (grid old : List ℕ) → old ≡ gridAfter refusal grid old
+      pub placed-short : (words old : List ℕ) → old ≡ placingAfter refusal words old
       unfolding writes
-      placed-short grid old = subst (λ f. old ≡ gridAfter f grid old) by-short (placed-nothing tooShort refl grid old)
+      placed-short words old = subst (λ f. old ≡ placingAfter f words old) by-short (placed-nothing tooShort refl words old)
 
       pub unlisted-short : record { number = shortBuffer; line = 0; length = 0 } ≡ unlistedAnswer refusal
       unlisted-short = unlisted tooShort ∙ ap unlistedAnswer by-short
@@ -149,8 +149,8 @@ module _ {own : List Refusal} {s : Sheet} {r : Reading} (h : ReadFrom own s r) (
           subst (λ f. Listed f (listingOf p) old new (record { number = NumberOf (d .held); line = 0; length = n })) by-day
           (listed-text outcome (writes-day (d .held)) (listingOf p) w)
 
-      pub placed-day : (old new : List ℕ) → new ≡ over (gridFor p) old → new ≡ gridAfter refusal (gridFor p) old
-      placed-day old new w = subst (λ f. new ≡ gridAfter f (gridFor p) old) by-day (placed-bytes outcome (writes-day (d .held)) (gridFor p) old new w)
+      pub placed-day : (old new : List ℕ) → new ≡ over (wordsFor p) old → new ≡ placingAfter refusal (wordsFor p) old
+      placed-day old new w = subst (λ f. new ≡ placingAfter f (wordsFor p) old) by-day (placed-words outcome (writes-day (d .held)) (wordsFor p) old new w)
 
       pub unlisted-day : record { number = NumberOf (d .held); line = 0; length = 0 } ≡ unlistedAnswer refusal
       unlisted-day = unlisted outcome ∙ ap unlistedAnswer by-day

@@ -11,7 +11,6 @@ use Rattle.checks.specs.Limits.{maxSlots}
 use Rattle.checks.specs.Refusals.{noPlacing}
 use Rattle.checks.specs.Sheet.{Sheet}
 use Rattle.sheet.specs.Calls.{accepted}
-use Rattle.common.specs.Buffers.{over}
 use Rattle.sheet.specs.OwnChecks.{ReadFrom, SomeReading}
 use Rattle.schedules.specs.Shortfall.{forced, capacity}
 use Rattle.schedules.specs.Tabulate.{tab}
@@ -20,8 +19,8 @@ use Rattle.feedings.specs.CellChoice.{ScheduleWords}
 use Rattle.stretches.specs.declared.Day.{Day}
 use Rattle.listing.specs.Opening.{Written}
 use Rattle.planning.specs.declared.Planned.{Planned}
-use Rattle.planning.specs.Problem.{Problem, alone, left, room, ProblemInRange, canBePlanned, feedingsOf, countsOf, shownSet, listingOf, gridFor}
-use Rattle.planning.specs.Planning.{planRefusalFor, shortPlan, shortGrid, listedAnswer, unlistedAnswer, listingAfter, gridAfter, sameDay}
+use Rattle.planning.specs.Problem.{Problem, alone, left, room, ProblemInRange, canBePlanned, feedingsOf, countsOf, shownSet, listingOf, wordsFor}
+use Rattle.planning.specs.Planning.{planRefusalFor, shortPlan, shortPlacing, listedAnswer, unlistedAnswer, listingAfter, placingAfter, sameDay}
 
 -- The day of a problem ------------------------------------------------------------------------
 
@@ -69,9 +68,6 @@ DayFound r d = (own : List Refusal) (s : Sheet) → ReadFrom own s r → r .numb
 abbrev pub DayListed : Reading → Day → (old new : List ℕ) → ℕ → Type 0
 DayListed r d old new n = (p : Problem) → DayOf p r d → Written (listingOf p) old new n
 
-abbrev pub DayPlaced : Reading → Day → (old new : List ℕ) → Type 0
-DayPlaced r d old new = (p : Problem) → DayOf p r d → new ≡ over (gridFor p) old
-
 -- whether two planned days are the same, of whatever problems they are the days of
 abbrev pub DaysCompared : (r : Reading) (d : Day) (r′ : Reading) (d′ : Day) → Bool → Type 0
 DaysCompared r d r′ d′ x =
@@ -92,14 +88,14 @@ ReadListed r old new p =
 abbrev pub ReadPlaced : Reading → (old new : List ℕ) → Planned → Type 0
 ReadPlaced r old new p =
     (own : List Refusal) (s : Sheet) → ReadFrom own s r
-    → (p ≡ unlistedAnswer (planRefusalFor own s (shortGrid old))) × (new ≡ gridAfter (planRefusalFor own s (shortGrid old)) (gridFor (alone s)) old)
+    → (p ≡ unlistedAnswer (planRefusalFor own s (shortPlacing old))) × (new ≡ placingAfter (planRefusalFor own s (shortPlacing old)) (wordsFor (alone s)) old)
 
 -- with both
 abbrev pub ReadBoth : Reading → (old new old′ new′ : List ℕ) → Planned → Type 0
 ReadBoth r old new old′ new′ p =
     (own : List Refusal) (s : Sheet) → ReadFrom own s r
-    → Listed (planRefusalFor own s (shortPlan old || shortGrid old′)) (listingOf (alone s)) old new p
-    × (new′ ≡ gridAfter (planRefusalFor own s (shortPlan old || shortGrid old′)) (gridFor (alone s)) old′)
+    → Listed (planRefusalFor own s (shortPlan old || shortPlacing old′)) (listingOf (alone s)) old new p
+    × (new′ ≡ placingAfter (planRefusalFor own s (shortPlan old || shortPlacing old′)) (wordsFor (alone s)) old′)
 
 -- with none
 abbrev pub ReadNumbered : Reading → Planned → Type 0

@@ -33,20 +33,19 @@ use Rattle.feedings.specs.CellChoice.{ScheduleWords}
 use Rattle.feedings.specs.ScheduleWordLaws.{words-load}
 use Rattle.stretches.specs.declared.Day.{Day}
 use Rattle.stretches.specs.Days.{DayPlanned}
-use Rattle.plan_lines.specs.Sizes.{planBytes, gridBytes}
-use Rattle.plan_lines.specs.Text.{planText, heldText, gridOf}
-use Rattle.plan_lines.specs.Inputs.{placingOf, setOf}
+use Rattle.plan_lines.specs.Sizes.{planBytes, placingWords}
+use Rattle.plan_lines.specs.Text.{planText, heldText}
+use Rattle.plan_lines.specs.Inputs.{setOf}
 use Rattle.listing.specs.Opening.{Written}
 use Rattle.listing.specs.PlanSteps.{CanPutPlan}
 use Rattle.listing.specs.PlanSteps as Put
 use Rattle.listing.specs.HeldSteps.{CanPutHeld}
-use Rattle.listing.specs.GridSteps.{CanPutGrid}
-use Rattle.planning.specs.Problem.{Problem, alone, left, room, ProblemInRange, canBePlanned, settledCounts, feedingsOf, countsOf, shownSet, planWith, listingOf, gridFor}
+use Rattle.planning.specs.Problem.{Problem, alone, left, room, ProblemInRange, canBePlanned, settledCounts, feedingsOf, countsOf, shownSet, planWith, listingOf, wordsFor}
 use Rattle.planning.specs.Contracts.{DayOf}
-use Rattle.planning.specs.InputLaws.{Holds, placingOf-holds, planText-holds, setOf-tab}
+use Rattle.planning.specs.InputLaws.{Holds, planText-holds, setOf-tab, words-of, no-words}
 use Rattle.planning.specs.PlacingLaws.{placing-rows, counts-le, length-placing}
 use Rattle.planning.specs.AloneLaws.{left-alone, room-alone, alone-in-range}
-use Rattle.planning.specs.ProblemLaws.{listing-plan, listing-held, grid-plan, grid-held, length-left, feedings-sound, feedings-whole, counts-whole, length-countsOf}
+use Rattle.planning.specs.ProblemLaws.{listing-plan, listing-held, words-plan, words-held, length-wordsFor, length-left, feedings-sound, feedings-whole, counts-whole, length-countsOf}
 
 -- the day that was planned of what is left of a whole day, in the room left
 pub day-of-whole : (p : Problem) → ProblemInRange p → p .cut ≡ 0 → {r : Reading} → r ≡ accepted (p .sheet) → {d : Day}
@@ -153,20 +152,6 @@ module _ {p : Problem} {r : Reading} {d : Day} (h : DayOf p r d) where
         → Written (listingOf p) old new n
     plan-written {old} {new} {n} w = subst (λ x. Written x old new n) (plan-text ∙ sym (listing-plan p can)) w
 
-    -- of a placing
-    pub grid-can : (out : List ℕ) → gridBytes ≤ length out → CanPutGrid out (r .slots) (r .rations) (d .fed)
-    unfolding accepted
-    grid-can out room =
-        subst (λ x. CanPutGrid out (x .slots) (x .rations) (d .fed)) (sym (h .read))
-        (record { day = values .head .slots .le; long = words .long; few = values .head .rations; room = room })
-
-    pub grid-written : (old new : List ℕ) → new ≡ over (gridOf (placingOf (r .slots) (r .rations) (d .fed))) old → new ≡ over (gridFor p) old
-    unfolding accepted
-    grid-written old new w =
-        w ∙ ap (λ x. over (gridOf (placingOf (x .slots) (x .rations) (d .fed))) old) (h .read)
-        ∙ ap (λ q. over (gridOf q) old) (placingOf-holds (s .slots) (length (s .jobs)) (d .fed) (feedingsOf p) (omega (arith, words .long, values .head .slots .le)) holds)
-        ∙ ap (λ x. over x old) (sym (grid-plan p can))
-
   module _ (e : d .held ≡ true) where
     cannot : canBePlanned p ≡ false
     cannot = not-true (canBePlanned p) (sym (h .held) ∙ e)
@@ -189,8 +174,22 @@ module _ {p : Problem} {r : Reading} {d : Day} (h : DayOf p r d) where
         ∙ ap (heldText (shownSet p) (forced (left p) (shownSet p))) (h .high-over e)
         ∙ sym (listing-held p cannot)) w
 
-    pub held-grid : (old new : List ℕ) → new ≡ over (gridOf []) old → new ≡ over (gridFor p) old
-    held-grid old new w = w ∙ ap (λ x. over x old) (sym (grid-held p cannot))
+  -- the words of a day, planned or held, are those of the placing buffer
+  pub day-words : d .fed ≡ wordsFor p
+  day-words = go (d .held) refl
+    where
+      go : (b : Bool) → d .held ≡ b → d .fed ≡ wordsFor p
+      go true e = h .no-fed e ∙ no-words ∙ sym (words-held p (cannot e))
+      go false e =
+          words-of (words e) (length-placing s (feedingsOf p) (feedings-sound p (h .in-range) (can e)))
+          (placing-rows s (feedingsOf p) (feedings-sound p (h .in-range) (can e)))
+          ∙ sym (words-plan p (can e))
+
+  pub fed-long : length (d .fed) ≡ placingWords
+  fed-long = ap length day-words ∙ length-wordsFor p
+
+  pub words-written : (old : List ℕ) {new : List ℕ} → new ≡ over (d .fed) old → new ≡ over (wordsFor p) old
+  words-written old w = w ∙ ap (λ x. over x old) day-words
 
 -- The day of a sheet that was read, planned alone ------------------------------------------
 

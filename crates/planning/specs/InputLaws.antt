@@ -1,28 +1,36 @@
 -- What the arrays given to the calls stand for, by place; and words whose bits are those of fewer rations stand for the plan of these alone. Assumes nothing.
 use mathlib.Core.Path.{_≡_, refl, sym, ap, ap₂, _∙_}
-use mathlib.Core.Bool.{false}
+use mathlib.Core.Bool.{Bool, true, false, cond}
 use mathlib.Core.List.{List, [], _∷_, _++_, map}
 use Prim.Native.Nat.{ℕ, zero, suc, _+_, _-_, _*_, _^_, _≤_, _<_}
 use native.Mathlib.Omega.{arith}
 use lib.Dec.{eqb, ltb}
-use lib.ListN.{length, getD, take, length-map, length-take, replicate}
+use native.Mathlib.Decide.{decLt}
+use lib.ListN.{length, getD, take, drop, length-append, length-map, length-take, length-replicate, replicate, List·getD-append}
+use lib.Pow.{pow-mono}
 use lib.Seq.{getD-take, ext-getD}
 use Rattle.common.specs.Lists.{range, flatMap, zipWith}
-use Rattle.common.specs.Bits.{bit}
+use Rattle.common.specs.ListLaws.{length-map-range, getD-map-range}
+use Rattle.common.specs.Bits.{bit, bit-of-zero, bit-below}
+use Rattle.common.specs.FillLaws.{getD-zeros}
 use Rattle.line.specs.Layout.{fields}
-use Rattle.checks.specs.Limits.{maxRations}
+use Rattle.checks.specs.Limits.{maxSlots, maxRations}
 use Rattle.checks.specs.Sheet.{Job, numbersOf}
-use Rattle.common.specs.Buffers.{padded}
+use Rattle.common.specs.Buffers.{padded, over}
+use Rattle.theory.specs.SumsOver.{one}
 use Rattle.schedules.specs.Slots.{Slots, has}
 use Rattle.schedules.specs.Schedules.{Schedule}
 use Rattle.schedules.specs.Tabulate.{tab, tab-unique, getD-map-below}
 use Rattle.schedules.specs.AsFunctions.{Rows}
+use Rattle.feedings.specs.CellChoice.{ScheduleWords}
 use Rattle.plan_lines.specs.Lines.{Line, partAt, slotLines, feedLines, planLines}
 use Rattle.plan_lines.specs.Text.{planText}
+use Rattle.plan_lines.specs.Sizes.{placingWords}
+use Rattle.plan_lines.specs.PlacingForms.{wordOf, wordsOf}
+use Rattle.plan_lines.specs.PlacingFormLaws.{bit-wordOf, wordOf-few, length-wordsOf, getD-wordsOf, words-are, has-past, row-past}
 use Rattle.plan_lines.specs.Inputs.{tankAt, tanksOf, rowOf, placingOf, setOf}
 use Rattle.plan_lines.specs.SetBits.{setBits-past}
 use Rattle.plan_lines.specs.FeedLaws.{wordLines, slotLines-word, has-rowOf}
-use Rattle.plan_lines.specs.LengthLaws.{getD-map-range}
 use Rattle.listing.specs.PlanSteps.{planOf}
 
 -- Sets and placings by place ---------------------------------------------------------
@@ -44,25 +52,64 @@ pub record Holds (slots n : ℕ) (words : List ℕ) (p : Schedule) : Type 0 wher
   pub fed : (j t : ℕ) → j < n → t < slots → has (getD p j []) t ≡ eqb (bit (getD words t 0) j) 1
   pub few : (t : ℕ) → t < slots → getD words t 0 < 2 ^ n
 
-length-map-range : {A : Type 0} (f : ℕ → A) (a n : ℕ) → length (map f (range a n)) ≡ n
-length-map-range f a zero = refl
-length-map-range f a (suc n) = ap suc (length-map-range f (suc a) n)
-
-getD-rows : (f : ℕ → Slots) (a n j : ℕ) → j < n → getD (map f (range a n)) j [] ≡ f (a + j)
-getD-rows f a zero j l = absurd (omega arith)
-getD-rows f a (suc n) zero l = ap f (omega arith)
-getD-rows f a (suc n) (suc j) l = getD-rows f (suc a) n j (omega arith) ∙ ap f (omega arith)
-
 pub placingOf-holds : (slots n : ℕ) (words : List ℕ) (p : Schedule) → slots ≤ length words → Holds slots n words p → placingOf slots n words ≡ p
 unfolding placingOf
-placingOf-holds slots n words p there h = ext-getD [] (map (rowOf slots words) (range 0 n)) p (length-map-range (rowOf slots words) 0 n ∙ sym (h .rations)) (λ j l. row j (rw (length-map-range (rowOf slots words) 0 n) at l))
+placingOf-holds slots n words p there h = ext-getD [] (map (rowOf slots words) (range 0 n)) p (length-map-range (rowOf slots words) n ∙ sym (h .rations)) (λ j l. row j (rw (length-map-range (rowOf slots words) n) at l))
   where
     row : (j : ℕ) → j < n → getD (map (rowOf slots words) (range 0 n)) j [] ≡ getD p j []
     row j l =
-        getD-rows (rowOf slots words) 0 n j l
-        ∙ ap (rowOf slots words) (omega arith)
+        getD-map-range (rowOf slots words) [] n j l
         ∙ ext-getD false (rowOf slots words j) (getD p j []) (length-rowOf slots words j there ∙ sym (h .rows j (omega (arith, h .rations))))
         (λ t k. let d : t < slots = rw (length-rowOf slots words j there) at k in has-rowOf slots words t d there j ∙ sym (h .fed j t l d))
+
+-- The words of a placing --------------------------------------------------------------
+
+one-mark : (b : Bool) → one b ≡ cond b 1 0
+one-mark true = refl
+one-mark false = refl
+
+-- words that hold a placing are its words
+pub words-of : {n d : ℕ} {p : Schedule} {W : List ℕ} → ScheduleWords n d p W → length p ≡ n → Rows d p → W ≡ wordsOf p
+words-of {n} {d} {p} {W} h e rows = words-are p W (h .long) (λ t j l. at t j (decLt t d) (decLt j n))
+  where
+    none : (t j : ℕ) → bit (getD W t 0) j ≡ 0 → has (getD p j []) t ≡ false → bit (getD W t 0) j ≡ cond (has (getD p j []) t) 1 0
+    none t j z f = z ∙ sym (ap (λ b. cond b 1 0) f)
+
+    at : (t j : ℕ) → Dec (t < d) → Dec (j < n) → bit (getD W t 0) j ≡ cond (has (getD p j []) t) 1 0
+    at t j (yes l) (yes m) = h .rows t l .bits j m ∙ one-mark (has (getD p j []) t)
+    at t j (yes l) (no m) =
+        let k : n ≤ j = omega arith in
+        none t j (bit-below (getD W t 0) j (omega (arith, h .rows t l .few, pow-mono {i = n} {j = j} k)))
+        (ap (λ c. has c t) (row-past p j (omega (arith, e))))
+    at t j (no l) (yes m) =
+        none t j (ap (λ w. bit w j) (h .past t (omega arith)) ∙ bit-of-zero j)
+        (has-past (getD p j []) t (omega (arith, rows j (omega (arith, e)))))
+    at t j (no l) (no m) =
+        none t j (ap (λ w. bit w j) (h .past t (omega arith)) ∙ bit-of-zero j)
+        (ap (λ c. has c t) (row-past p j (omega (arith, e))))
+
+pub no-words : replicate placingWords 0 ≡ wordsOf []
+no-words =
+    words-are [] (replicate placingWords 0) (length-replicate {A = ℕ} placingWords 0)
+    (λ t j l. ap (λ w. bit w j) (getD-zeros placingWords t) ∙ bit-of-zero j)
+
+-- a placing is read back from its words, whatever lies after them
+pub placingOf-words : (slots : ℕ) → slots ≤ maxSlots → (p : Schedule) → Rows slots p → (old : List ℕ)
+    → placingOf slots (length p) (over (wordsOf p) old) ≡ p
+unfolding over
+placingOf-words slots short p rows old =
+    placingOf-holds slots (length p) (over (wordsOf p) old) p (omega (arith, length-append (wordsOf p) rest, length-wordsOf p))
+    (record { rations = refl; rows = rows; fed = λ j t l k. sym (ap (λ w. eqb (bit w j) 1) (word t k) ∙ ap (λ b. eqb b 1) (bit-wordOf p t j) ∙ marked (has (getD p j []) t)); few = λ t k. rw (word t k) (wordOf-few p t) })
+  where
+    rest : List ℕ
+    rest = drop (length (wordsOf p)) old
+
+    word : (t : ℕ) → t < slots → getD (wordsOf p ++ rest) t 0 ≡ wordOf p t
+    word t k = List·getD-append (wordsOf p) rest 0 t (omega (arith, length-wordsOf p)) ∙ getD-wordsOf p t (omega arith)
+
+    marked : (b : Bool) → eqb (cond b 1 0) 1 ≡ b
+    marked true = refl
+    marked false = refl
 
 -- Tanks ------------------------------------------------------------------------------
 
@@ -100,7 +147,7 @@ module _ (slots n m : ℕ) (numbers words : List ℕ) (there : slots ≤ length 
       parts = map (λ i. partAt t (rowOf slots words i)) (range 0 m)
 
       part : (j : ℕ) → j < m → getD parts j 0 ≡ partAt t (rowOf slots words j)
-      part j k = getD-map-range (λ i. partAt t (rowOf slots words i)) 0 m j k ∙ ap (λ i. partAt t (rowOf slots words i)) (omega arith)
+      part j k = getD-map-range (λ i. partAt t (rowOf slots words i)) 0 m j k
 
   pub feedLines-fewer : feedLines slots (tanksOf m numbers) (placingOf slots m words) ≡ feedLines slots (tanksOf n numbers) (placingOf slots n words)
   unfolding feedLines

@@ -11,7 +11,7 @@ use Rattle.checks.specs.Sheet.{sheetOf, Sheet}
 use Rattle.checks.specs.Checks.{fault, firstRefusal, faults}
 use Rattle.checks.specs.CallChecks.{planningChecks, comparisonChecks}
 use Rattle.common.specs.Buffers.{over}
-use Rattle.plan_lines.specs.Sizes.{planBytes, gridBytes}
+use Rattle.plan_lines.specs.Sizes.{planBytes, placingWords}
 use Rattle.planning.specs.declared.Planned.{Planned}
 use Rattle.planning.specs.declared.Compared.{Compared}
 use Rattle.planning.specs.Problem.{Problem, alone, canBePlanned, countsOf}
@@ -37,8 +37,8 @@ planRefusal b short = planRefusalFor (faults b) (sheetOf b) short
 unfoldable pub shortPlan : List ℕ → Bool
 shortPlan listing = ltb (length listing) planBytes
 
-unfoldable pub shortGrid : List ℕ → Bool
-shortGrid grid = ltb (length grid) gridBytes
+unfoldable pub shortPlacing : List ℕ → Bool
+shortPlacing placing = ltb (length placing) placingWords
 
 -- every number but 0 and 12 changes no lent byte and gives length 0
 unfoldable pub writes : ℕ → Bool
@@ -58,9 +58,9 @@ unlistedAnswer r = record { number = r .number; line = r .line; length = 0 }
 unfoldable pub listingAfter : Refusal → (listing old : List ℕ) → List ℕ
 listingAfter r listing old = cond (writes (r .number)) (over listing old) old
 
--- a lent placing buffer afterwards, with this placing's bytes
-unfoldable pub gridAfter : Refusal → (grid old : List ℕ) → List ℕ
-gridAfter r grid old = cond (writes (r .number)) (over grid old) old
+-- a lent placing buffer afterwards, with these words: words after them keep their values
+unfoldable pub placingAfter : Refusal → (words old : List ℕ) → List ℕ
+placingAfter r words old = cond (writes (r .number)) (over words old) old
 
 -- Comparison ------------------------------------------------------------------
 

@@ -16,7 +16,8 @@ use Rattle.schedules.specs.Rest.{restDemands, restHigh, KeptBefore, SameBefore,
 use Rattle.method.specs.Method.{boundsUnder, loads}
 use Rattle.method.specs.Feedings.{chosen}
 use Rattle.plan_lines.specs.Lines.{Plan}
-use Rattle.plan_lines.specs.Text.{planText, heldText, gridOf}
+use Rattle.plan_lines.specs.Text.{planText, heldText}
+use Rattle.plan_lines.specs.PlacingForms.{wordsOf}
 
 -- The problem ---------------------------------------------------------------------------------------
 
@@ -107,6 +108,6 @@ heldListing p = heldText (shownSet p) (forced (left p) (shownSet p)) (capacity (
 unfoldable pub listingOf : Problem → List ℕ
 listingOf p = elim (canBePlanned p) [ true ↦ planListing p | false ↦ heldListing p ]
 
--- the placing buffer's bytes: all 0 where nothing is planned
-unfoldable pub gridFor : Problem → List ℕ
-gridFor p = elim (canBePlanned p) [ true ↦ gridOf (feedingsOf p) | false ↦ gridOf [] ]
+-- the placing buffer's words: all 0 where nothing is planned
+unfoldable pub wordsFor : Problem → List ℕ
+wordsFor p = elim (canBePlanned p) [ true ↦ wordsOf (feedingsOf p) | false ↦ wordsOf [] ]

@@ -37,10 +37,11 @@ use Rattle.method.specs.StopsAt.{StretchesStopFrom}
 use Rattle.method.specs.Theorems.{length-loads, low-is-high, settled-loads, loads-between, loads-feasible, stretches-stop}
 use Rattle.method.specs.FeedingLaws.{chosen-sound}
 use Rattle.method.specs.RestDayLaws.{whole-stops}
-use Rattle.plan_lines.specs.Sizes.{planBytes}
+use Rattle.plan_lines.specs.Sizes.{planBytes, placingWords}
 use Rattle.plan_lines.specs.Lines.{Line, heldLines}
-use Rattle.plan_lines.specs.Text.{gridOf}
-use Rattle.planning.specs.Problem.{Problem, SoundPlacing, left, room, MayPlace, ProblemInRange, canBePlanned, settledCounts, feedingsOf, countsOf, shownSet, planListing, heldListing, listingOf, gridFor}
+use Rattle.plan_lines.specs.PlacingForms.{wordsOf}
+use Rattle.plan_lines.specs.PlacingFormLaws.{length-wordsOf}
+use Rattle.planning.specs.Problem.{Problem, SoundPlacing, left, room, MayPlace, ProblemInRange, canBePlanned, settledCounts, feedingsOf, countsOf, shownSet, planListing, heldListing, listingOf, wordsFor}
 use Rattle.planning.specs.ReadLaws.{FitLines}
 use Rattle.planning.specs.PlacingLaws.{length-counts}
 use Rattle.planning.specs.FitLaws.{fit-heldLines, length-planText, length-heldText}
@@ -49,7 +50,7 @@ use Rattle.planning.specs.FitLaws.{fit-heldLines, length-planText, lengt
 abbrev pub heldLinesOf : Problem → List Line
 heldLinesOf p = heldLines (shownSet p) (forced (left p) (shownSet p)) (capacity (room p) (shownSet p))
 
--- the listing, and the placing buffer's bytes
+-- the listing, and the placing buffer's words
 module _ (p : Problem) where
   pub listing-plan : canBePlanned p ≡ true → listingOf p ≡ planListing p
   unfolding listingOf
@@ -59,13 +60,20 @@ module _ (p : Problem) where
   unfolding listingOf
   listing-held held = rw (held, listingOf)
 
-  pub grid-plan : canBePlanned p ≡ true → gridFor p ≡ gridOf (feedingsOf p)
-  unfolding gridFor
-  grid-plan can = rw (can, gridFor)
+  pub words-plan : canBePlanned p ≡ true → wordsFor p ≡ wordsOf (feedingsOf p)
+  unfolding wordsFor
+  words-plan can = rw (can, wordsFor)
 
-  pub grid-held : canBePlanned p ≡ false → gridFor p ≡ gridOf []
-  unfolding gridFor
-  grid-held held = rw (held, gridFor)
+  pub words-held : canBePlanned p ≡ false → wordsFor p ≡ wordsOf []
+  unfolding wordsFor
+  words-held held = rw (held, wordsFor)
+
+pub length-wordsFor : (p : Problem) → length (wordsFor p) ≡ placingWords
+length-wordsFor p = go (canBePlanned p) refl
+  where
+    go : (b : Bool) → canBePlanned p ≡ b → length (wordsFor p) ≡ placingWords
+    go true e = ap length (words-plan p e) ∙ length-wordsOf (feedingsOf p)
+    go false e = ap length (words-held p e) ∙ length-wordsOf []
 
 module _ (p : Problem) (g : ProblemInRange p) where
   abbrev s : Sheet

@@ -3,11 +3,10 @@
 -- nothing.
 use mathlib.Core.Bool.{Bool, _&&_}
 use mathlib.Core.List.{List, map}
-use Prim.Native.Nat.{ℕ, _+_, _*_}
+use Prim.Native.Nat.{ℕ, _+_}
 use lib.Dec.{eqb, leb}
 use lib.ListN.{getD, take, drop}
 use Rattle.common.specs.Lists.{range, sum, any, keep}
-use Rattle.checks.specs.Limits.{maxSlots}
 use Rattle.checks.specs.Sheet.{Job, Sheet, lineCount, lineAt}
 use Rattle.line.specs.Line.{valueAt}
 use Rattle.schedules.specs.Slots.{Slots}
@@ -105,9 +104,3 @@ tanks s = map (λ j. j .tank) (s .jobs)
 -- the placing on feed lines: for each meal, in sheet order, the slots on its lines
 unfoldable pub placingOn : (slots : ℕ) → List Job → List Line → Schedule
 placingOn slots jobs ls = map (λ j. slotSet slots (map (λ l. l .a) (ofMeal j ls))) jobs
-
--- A placing buffer ------------------------------------------------------------------
-
--- the placing marked in it: byte (i − 1) × 96 + t − 1 is 1 if ration i is fed in slot t
-unfoldable pub placingMarked : (slots rations : ℕ) → List ℕ → Schedule
-placingMarked slots rations bytes = map (λ i. map (λ t. eqb (getD bytes (i * maxSlots + t) 0) 1) (range 0 slots)) (range 0 rations)

@@ -15,7 +15,7 @@ use Rattle.checks.specs.Checks.{faults}
 use Rattle.sheet.specs.Calls.{accepted}
 use Rattle.checks.specs.WellFormedLaws.{wellFormed-faults}
 use Rattle.energy.specs.Energy.{starts, energy}
-use Rattle.plan_lines.specs.Sizes.{wordBytes, planBytes, gridBytes}
+use Rattle.plan_lines.specs.Sizes.{wordBytes, planBytes, placingWords}
 use Rattle.plan_lines.specs.Lines.{Line, planLines}
 use Rattle.plan_lines.specs.Text.{writeLines, planWord, heldWord, planText, heldText}
 use Rattle.planning.specs.Problem.{Problem, alone, ProblemInRange, canBePlanned, feedingsOf, countsOf, planWith, listingOf}
@@ -25,12 +25,12 @@ use Rattle.planning.specs.FitLaws.{energy-fits, starts-fit, fit-planLine
 use Rattle.planning.specs.ProblemLaws.{heldLinesOf, listing-plan, listing-held, feedings-sound, fit-held, length-listing}
 use Rattle.planning.specs.AloneLaws.{alone-in-range}
 
--- Sizes, as document 01 and request 103 have them --------------------------------------------------------------
+-- Sizes, as requests 103 and 106 have them --------------------------------------------------------------
 
 pub plan-buffer-size : planBytes ≡ 32303
 plan-buffer-size = refl
 
-pub placing-buffer-size : gridBytes ≡ 6144
+pub placing-buffer-size : placingWords ≡ 96
 placing-buffer-size = refl
 
 -- Listings ----------------------------------------------------------------------------------

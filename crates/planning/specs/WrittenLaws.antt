@@ -20,7 +20,7 @@ use Rattle.plan_lines.specs.Sizes.{wordBytes}
 use Rattle.plan_lines.specs.Lines.{Line, line, stretchLines, feedLines, billLine, planLines}
 use Rattle.plan_lines.specs.Text.{writeLines, planWord, planText}
 use Rattle.planning.specs.Problem.{Problem, SoundPlacing, canBePlanned, planWith}
-use Rattle.planning.specs.Planning.{planChecks, writes, listedAnswer, listingAfter, gridAfter}
+use Rattle.planning.specs.Planning.{planChecks, writes, listedAnswer, listingAfter, placingAfter}
 use Rattle.planning.specs.ReadListing.{written, tanks, linesOf, headLine, stretchPart, feedPart, billOn, placingOn}
 use Rattle.planning.specs.ReadLaws.{linesOf-written}
 use Rattle.planning.specs.FeedLineLaws as Feed
@@ -50,10 +50,10 @@ pub listing-written : (r : Refusal) (listing old : List ℕ) → writes (r .numb
 unfolding listedAnswer listingAfter
 listing-written r listing old e = written-front listing old (writes (r .number)) e
 
--- .. and the placing buffer's bytes
-pub grid-written : (r : Refusal) (grid old : List ℕ) → writes (r .number) ≡ true → gridAfter r grid old ≡ over grid old
-unfolding gridAfter
-grid-written r grid old e = rw e
+-- .. and the placing buffer's words
+pub placing-written : (r : Refusal) (words old : List ℕ) → writes (r .number) ≡ true → placingAfter r words old ≡ over words old
+unfolding placingAfter
+placing-written r words old e = rw e
 
 pub writes-planned : (n : ℕ) → n ≡ 0 → writes n ≡ true
 unfolding writes

@@ -3,10 +3,10 @@
 use crate::Planned;
 use checks::refusals::NO_PLACING;
 use checks::refusals::SHORT_BUFFER;
-use listing::grid;
 use listing::held;
+use listing::placing_words;
 use listing::plan_listing;
-use plan_lines::sizes::GRID_BYTES;
+use plan_lines::sizes::PLACING_WORDS;
 use plan_lines::sizes::PLAN_BYTES;
 use sheet::Reading;
 use stretches::Day;
@@ -16,10 +16,10 @@ ghost use Prim.Native.Nat.{_≤_};
 ghost use lib.ListN.{length};
 ghost use Rattle.checks.specs.Sheet.{sheetOf};
 ghost use Rattle.sheet.specs.OwnChecks.{SomeReading};
-ghost use Rattle.plan_lines.specs.Sizes.{planBytes, gridBytes};
-ghost use Rattle.planning.specs.Problem.{alone, listingOf, gridFor};
-ghost use Rattle.planning.specs.Planning.{planRefusal, shortPlan, shortGrid, listedAnswer, unlistedAnswer, listingAfter, gridAfter};
-ghost use Rattle.planning.specs.Contracts.{ReadSheet, DayFound, SomeDay, DayListed, DayPlaced, NumberOf, ReadListed, ReadPlaced, ReadBoth, ReadNumbered};
+ghost use Rattle.plan_lines.specs.Sizes.{planBytes};
+ghost use Rattle.planning.specs.Problem.{alone, listingOf, wordsFor};
+ghost use Rattle.planning.specs.Planning.{planRefusal, shortPlan, shortPlacing, listedAnswer, unlistedAnswer, listingAfter, placingAfter};
+ghost use Rattle.planning.specs.Contracts.{ReadSheet, DayFound, SomeDay, DayListed, NumberOf, ReadListed, ReadPlaced, ReadBoth, ReadNumbered};
 
 // A refusal's answer: nothing was written.
 fn refuse(number: u32, line: u32) -> Planned
@@ -70,19 +70,6 @@ fn list_day(sheet: Reading, day: Day, out: &mut [u8]) -> usize
     )
 }
 
-// Writes the placing of a day, all 0 where it is held.
-fn place_day(sheet: Reading, day: Day, out: &mut [u8])
-    requires { ⌜ SomeDay sheet day × (gridBytes ≤ length (now out)) ⌝ }
-    ensures { λ _. ⌜ DayPlaced sheet day (now (out .entry)) (now (out .exit)) ⌝ }
-{
-    if day.held {
-        grid::clear_grid(out);
-        return;
-    }
-    let fed = day.fed;
-    grid::put_grid(out, sheet.slots as usize, sheet.rations as usize, &fed);
-}
-
 // The number of a day that was planned, or held for want of blowers.
 fn number_of(is_held: bool) -> u32
     ensures { λ r. ⌜ r ≡ NumberOf «is_held» ⌝ }
@@ -111,23 +98,24 @@ pub fn plan_of(sheet: Reading, listing: &mut [u8]) -> Planned
 }
 
 // With a placing buffer lent.
-pub fn plan_placing_of(sheet: Reading, placing: &mut [u8]) -> Planned
+pub fn plan_placing_of(sheet: Reading, placing: &mut [u64]) -> Planned
     requires { ⌜ SomeReading sheet ⌝ }
     ensures { λ r. ⌜ ReadPlaced sheet (now (placing .entry)) (now (placing .exit)) r ⌝ }
 {
     if sheet.number != 0 {
         return refuse(sheet.number, sheet.line);
     }
-    if placing.len() < GRID_BYTES {
+    if placing.len() < PLACING_WORDS {
         return refuse(SHORT_BUFFER, 0);
     }
     let day = day_of(sheet);
-    place_day(sheet, day, placing);
+    let fed = day.fed;
+    placing_words::put_words(placing, &fed);
     refuse(number_of(day.held), 0)
 }
 
 // With both buffers lent.
-pub fn plan_both_of(sheet: Reading, listing: &mut [u8], placing: &mut [u8]) -> Planned
+pub fn plan_both_of(sheet: Reading, listing: &mut [u8], placing: &mut [u64]) -> Planned
     requires { ⌜ SomeReading sheet ⌝ }
     ensures { λ r. ⌜ ReadBoth sheet (now (listing .entry)) (now (listing .exit)) (now (placing .entry)) (now (placing .exit)) r ⌝ }
 {
@@ -137,11 +125,12 @@ pub fn plan_both_of(sheet: Reading, listing: &mut [u8], placing: &mut [u8]) -> P
     if listing.len() < PLAN_BYTES {
         return refuse(SHORT_BUFFER, 0);
     }
-    if placing.len() < GRID_BYTES {
+    if placing.len() < PLACING_WORDS {
         return refuse(SHORT_BUFFER, 0);
     }
     let day = day_of(sheet);
-    place_day(sheet, day, placing);
+    let fed = day.fed;
+    placing_words::put_words(placing, &fed);
     let length = list_day(sheet, day, listing);
     Planned {
         number: number_of(day.held),
@@ -172,20 +161,21 @@ pub fn plan(b: &[u8], listing: &mut [u8]) -> Planned
     plan_of(sheet::read(b), listing)
 }
 
-// Plans a sheet, with a placing buffer lent: the number and the line as `plan` gives them, and length 0; the placing at
-// the front of `placing`, all 0 where the sheet is held for want of blowers, and nothing written on any other refusal.
-pub fn plan_placing(b: &[u8], placing: &mut [u8]) -> Planned
-    ensures { λ r. ⌜ r ≡ unlistedAnswer (planRefusal (now (b .entry)) (shortGrid (now (placing .entry)))) ⌝ }
-    ensures { λ _. ⌜ now (placing .exit) ≡ gridAfter (planRefusal (now (b .entry)) (shortGrid (now (placing .entry)))) (gridFor (alone (sheetOf (now (b .entry))))) (now (placing .entry)) ⌝ }
+// Plans a sheet, with a placing buffer lent: the number and the line as `plan` gives them, and length 0; the word of each
+// of 96 slots at the front of `placing`, all 0 where the sheet is held for want of blowers, and nothing written on any
+// other refusal.
+pub fn plan_placing(b: &[u8], placing: &mut [u64]) -> Planned
+    ensures { λ r. ⌜ r ≡ unlistedAnswer (planRefusal (now (b .entry)) (shortPlacing (now (placing .entry)))) ⌝ }
+    ensures { λ _. ⌜ now (placing .exit) ≡ placingAfter (planRefusal (now (b .entry)) (shortPlacing (now (placing .entry)))) (wordsFor (alone (sheetOf (now (b .entry))))) (now (placing .entry)) ⌝ }
 {
     plan_placing_of(sheet::read(b), placing)
 }
 
 // Plans a sheet, with both buffers lent.
-pub fn plan_both(b: &[u8], listing: &mut [u8], placing: &mut [u8]) -> Planned
-    ensures { λ r. ⌜ r ≡ listedAnswer (planRefusal (now (b .entry)) (shortPlan (now (listing .entry)) || shortGrid (now (placing .entry)))) (listingOf (alone (sheetOf (now (b .entry))))) ⌝ }
-    ensures { λ _. ⌜ now (listing .exit) ≡ listingAfter (planRefusal (now (b .entry)) (shortPlan (now (listing .entry)) || shortGrid (now (placing .entry)))) (listingOf (alone (sheetOf (now (b .entry))))) (now (listing .entry)) ⌝ }
-    ensures { λ _. ⌜ now (placing .exit) ≡ gridAfter (planRefusal (now (b .entry)) (shortPlan (now (listing .entry)) || shortGrid (now (placing .entry)))) (gridFor (alone (sheetOf (now (b .entry))))) (now (placing .entry)) ⌝ }
+pub fn plan_both(b: &[u8], listing: &mut [u8], placing: &mut [u64]) -> Planned
+    ensures { λ r. ⌜ r ≡ listedAnswer (planRefusal (now (b .entry)) (shortPlan (now (listing .entry)) || shortPlacing (now (placing .entry)))) (listingOf (alone (sheetOf (now (b .entry))))) ⌝ }
+    ensures { λ _. ⌜ now (listing .exit) ≡ listingAfter (planRefusal (now (b .entry)) (shortPlan (now (listing .entry)) || shortPlacing (now (placing .entry)))) (listingOf (alone (sheetOf (now (b .entry))))) (now (listing .entry)) ⌝ }
+    ensures { λ _. ⌜ now (placing .exit) ≡ placingAfter (planRefusal (now (b .entry)) (shortPlan (now (listing .entry)) || shortPlacing (now (placing .entry)))) (wordsFor (alone (sheetOf (now (b .entry))))) (now (placing .entry)) ⌝ }
 {
     plan_both_of(sheet::read(b), listing, placing)
 }

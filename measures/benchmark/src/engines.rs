@@ -1,6 +1,7 @@
 //! The implementations that plan, and the call that lists causes, as calls of one shape.
 
 use reference::causes::CAUSES_BUFFER;
+use reference::listing::PLACING_WORDS;
 use sheets::{Kind, Sizes, FULL};
 use std::hint::black_box;
 
@@ -9,6 +10,18 @@ pub type Engine = fn(&[u8], &mut [u8]) -> (u32, u32, usize);
 
 pub fn library(sheet: &[u8], listing: &mut [u8]) -> (u32, u32, usize) {
     let answer = library::plan(sheet, listing);
+    (answer.number, answer.line, answer.length)
+}
+
+/// Plans into a placing buffer of its own alone, whatever buffer it is given.
+pub fn placing(sheet: &[u8], _: &mut [u8]) -> (u32, u32, usize) {
+    let answer = library::plan_placing(sheet, &mut [0; PLACING_WORDS]);
+    (answer.number, answer.line, answer.length)
+}
+
+/// Plans into a plan buffer, and into a placing buffer of its own.
+pub fn both(sheet: &[u8], listing: &mut [u8]) -> (u32, u32, usize) {
+    let answer = library::plan_both(sheet, listing, &mut [0; PLACING_WORDS]);
     (answer.number, answer.line, answer.length)
 }
 
@@ -39,6 +52,8 @@ pub fn named(name: &str) -> Option<Engine> {
     match name {
         "library" => Some(library),
         "plain" => Some(plain_plan),
+        "placing" => Some(placing),
+        "both" => Some(both),
         "causes" => Some(causes),
         _ => None,
     }

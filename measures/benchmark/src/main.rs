@@ -18,11 +18,12 @@ const USAGE: &str = "usage: benchmark planning SHEETS SLOW-SHEETS [LEMON-PROGRAM
        benchmark causes SHEETS SLOW-SHEETS
        benchmark questions SHEETS SLOW-SHEETS
        benchmark growth SHEETS PLOT
-       benchmark once library|plain|causes KIND SHEETS
+       benchmark once library|plain|placing|both|causes KIND SHEETS
        benchmark shortfall library|plain|by-slot KIND SHEETS
 SLOW-SHEETS is how many of the sheets the slower implementations get. PLOT is the file that the
-plot is written to. `once` plans each sheet once, or lists its causes, and `shortfall` asks the
-shortfall of each once, for instructions to be counted.";
+plot is written to. `once` plans each sheet once, by the library into a plan buffer, a placing
+buffer or both, or lists its causes, and `shortfall` asks the shortfall of each once, for
+instructions to be counted.";
 
 fn answer(words: &[&str]) -> Option<Result<(), String>> {
     Some(match *words {

@@ -7,32 +7,32 @@ use crate::values::Values;
 use crate::{causes, planning, questions, reading};
 use reference::causes::CAUSES_BUFFER;
 use reference::draws::Draws;
-use reference::listing::{PLACING_BUFFER, PLAN_BUFFER};
+use reference::listing::{PLACING_WORDS, PLAN_BUFFER};
 use reference::sheet::LINE;
 
 /// The buffers that all calls of a run are lent.
 pub struct Buffers {
-    pub listing: Lent,
-    pub placing: Lent,
-    pub causes: Lent,
-    pub sheet: Lent,
+    pub listing: Lent<u8>,
+    pub placing: Lent<u64>,
+    pub causes: Lent<u8>,
+    pub sheet: Lent<u8>,
 }
 
-/// Beyond the least size of a buffer, so much is lent at most.
+/// Beyond the least size of a buffer, so many bytes or words are lent at most.
 const MORE: usize = 40;
 
 impl Buffers {
     pub fn new() -> Self {
         Buffers {
-            listing: Lent::new(PLAN_BUFFER + MORE),
-            placing: Lent::new(PLACING_BUFFER + MORE),
-            causes: Lent::new(CAUSES_BUFFER + MORE),
-            sheet: Lent::new(65 * LINE + MORE),
+            listing: Lent::bytes(PLAN_BUFFER + MORE),
+            placing: Lent::words(PLACING_WORDS + MORE),
+            causes: Lent::bytes(CAUSES_BUFFER + MORE),
+            sheet: Lent::bytes(65 * LINE + MORE),
         }
     }
 }
 
-/// Buffers of no byte, one byte too few, just enough, and more.
+/// Buffers of no byte or word, one too few, just enough, and more.
 pub fn sizes(least: usize, draws: &mut Draws) -> [usize; 4] {
     [0, least - 1, least, least + 1 + draws.index(MORE)]
 }
@@ -47,11 +47,11 @@ pub fn same<T: PartialEq + std::fmt::Debug>(call: &str, answer: T, expected: T) 
     Err(format!("{call} answers {answer:?}, expected {expected:?}"))
 }
 
-pub fn holds(call: &str, buffer: &mut Lent, written: &[u8]) -> Checked {
+pub fn holds<T: Copy + PartialEq>(call: &str, buffer: &mut Lent<T>, written: &[T]) -> Checked {
     if buffer.holds(written) {
         return Ok(());
     }
-    Err(format!("{call} leaves other bytes than expected in memory"))
+    Err(format!("{call} leaves memory otherwise than expected"))
 }
 
 /// All calls. The second sheet is compared with the first, in both orders. Gives what is

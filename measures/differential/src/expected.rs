@@ -2,8 +2,8 @@
 
 use crate::values::Values;
 use reference::causes::{self, CAUSES_BUFFER};
-use reference::listing::{held_text, plan_text, PLACING_BUFFER, PLAN_BUFFER};
-use reference::sheet::{read, write, Refusal, Sheet, LINE, MOST_SLOTS};
+use reference::listing::{held_text, plan_text, PLACING_WORDS, PLAN_BUFFER};
+use reference::sheet::{read, write, Refusal, Sheet, LINE};
 use reference::{method, placing};
 
 /// A day with all that planning it gives. The reference plans it once.
@@ -15,7 +15,8 @@ pub struct Expected {
     pub number: u32,
     /// That of the plan or of the held sheet.
     pub listing: Vec<u8>,
-    pub placing: Vec<u8>,
+    /// A word for each slot, bit i for ration i, rations counted from 0.
+    pub placing: Vec<u64>,
     /// Each slot's count, of a planned sheet.
     pub counts: Option<Vec<u32>>,
 }
@@ -45,7 +46,7 @@ impl Expected {
             sheet,
             number: 0,
             listing: Vec::new(),
-            placing: vec![0; PLACING_BUFFER],
+            placing: vec![0; PLACING_WORDS],
             counts: None,
         };
         let Ok(sheet) = &expected.sheet else {
@@ -55,8 +56,8 @@ impl Expected {
             Ok(plan) => {
                 expected.listing = plan_text(&plan);
                 for (i, row) in plan.placing.iter().enumerate() {
-                    for (t, &fed) in row.iter().enumerate() {
-                        expected.placing[i * MOST_SLOTS as usize + t] = u8::from(fed);
+                    for (word, &fed) in expected.placing.iter_mut().zip(row) {
+                        *word |= u64::from(fed) << i;
                     }
                 }
                 expected.counts = Some(plan.counts);
@@ -69,13 +70,13 @@ impl Expected {
         expected
     }
 
-    /// The number and line of planning, lent buffers of these sizes.
+    /// The number and line of planning, lent buffers of so many bytes and so many words.
     pub fn planning(&self, listing: Option<usize>, placing: Option<usize>) -> (u32, u32) {
         if let Err(refusal) = &self.sheet {
             return (refusal.number, refusal.line);
         }
         let short = |size: Option<usize>, least: usize| size.is_some_and(|size| size < least);
-        if short(listing, PLAN_BUFFER) || short(placing, PLACING_BUFFER) {
+        if short(listing, PLAN_BUFFER) || short(placing, PLACING_WORDS) {
             return (10, 0);
         }
         (self.number, 0)

@@ -26,7 +26,7 @@ impl Form<'_> {
         }
     }
 
-    pub fn plan_both(&self, listing: &mut [u8], placing: &mut [u8]) -> Planned {
+    pub fn plan_both(&self, listing: &mut [u8], placing: &mut [u64]) -> Planned {
         match self {
             Form::Sheet(sheet) => library::plan_both(sheet, listing, placing),
             Form::Records(records) => records.plan_both(listing, placing),

@@ -4,7 +4,7 @@ use crate::calls::{holds, same, sizes, Buffers, Checked};
 use crate::expected::Expected;
 use crate::form::Form;
 use reference::draws::Draws;
-use reference::listing::{PLACING_BUFFER, PLAN_BUFFER};
+use reference::listing::{PLACING_WORDS, PLAN_BUFFER};
 
 fn is_planned(number: u32) -> bool {
     number == 0 || number == 12
@@ -12,9 +12,9 @@ fn is_planned(number: u32) -> bool {
 
 /// The calls that there are for a sheet alone, but for the comparison.
 pub fn check_sheet(e: &Expected, draws: &mut Draws, b: &mut Buffers) -> Checked {
-    for size in sizes(PLACING_BUFFER, draws) {
+    for size in sizes(PLACING_WORDS, draws) {
         let (number, line) = e.planning(None, Some(size));
-        let placing: &[u8] = if is_planned(number) { &e.placing } else { &[] };
+        let placing: &[u64] = if is_planned(number) { &e.placing } else { &[] };
         let answer = library::plan_placing(&e.bytes, b.placing.lend(size));
         let numbers = (answer.number, answer.line, answer.length);
         same("plan_placing", numbers, (number, line, 0))?;
@@ -37,7 +37,7 @@ pub fn check_compare(e: &Expected, second: &Expected) -> Checked {
 
 pub fn check_plan(e: &Expected, form: Form, draws: &mut Draws, b: &mut Buffers) -> Checked {
     let listings = sizes(PLAN_BUFFER, draws);
-    let placings = sizes(PLACING_BUFFER, draws);
+    let placings = sizes(PLACING_WORDS, draws);
     for size in listings {
         let (number, line) = e.planning(Some(size), None);
         let listing: &[u8] = if is_planned(number) { &e.listing } else { &[] };
@@ -59,7 +59,7 @@ pub fn check_plan(e: &Expected, form: Form, draws: &mut Draws, b: &mut Buffers) 
         for (i, one) in listings.into_iter().enumerate() {
             let other = placings[(i + shift) % 4];
             let (number, line) = e.planning(Some(one), Some(other));
-            let (listing, placing): (&[u8], &[u8]) = match is_planned(number) {
+            let (listing, placing): (&[u8], &[u64]) = match is_planned(number) {
                 true => (&e.listing, &e.placing),
                 false => (&[], &[]),
             };

@@ -70,15 +70,19 @@ pub struct Part {
 
 extern "C" {
     pub fn kiwimound_plan(b: *const u8, n: usize, listing: *mut u8, size: usize) -> Planned;
-    pub fn kiwimound_plan_placing(b: *const u8, n: usize, placing: *mut u8, size: usize)
-        -> Planned;
+    pub fn kiwimound_plan_placing(
+        b: *const u8,
+        n: usize,
+        placing: *mut u64,
+        words: usize,
+    ) -> Planned;
     pub fn kiwimound_plan_both(
         b: *const u8,
         n: usize,
         listing: *mut u8,
         listing_size: usize,
-        placing: *mut u8,
-        placing_size: usize,
+        placing: *mut u64,
+        placing_words: usize,
     ) -> Planned;
     pub fn kiwimound_plan_number(b: *const u8, n: usize) -> Planned;
     pub fn kiwimound_compare(a: *const u8, m: usize, b: *const u8, n: usize) -> Compared;

@@ -16,14 +16,14 @@ pub fn plan(sheet: &[u8], listing: &mut [u8]) -> Planned {
     unsafe { foreign::kiwimound_plan(sheet.as_ptr(), sheet.len(), out, size) }
 }
 
-/// Plans a sheet, with a placing buffer lent.
-pub fn plan_placing(sheet: &[u8], placing: &mut [u8]) -> Planned {
-    let (out, size) = (placing.as_mut_ptr(), placing.len());
-    unsafe { foreign::kiwimound_plan_placing(sheet.as_ptr(), sheet.len(), out, size) }
+/// Plans a sheet, with a placing buffer lent: a word for each slot.
+pub fn plan_placing(sheet: &[u8], placing: &mut [u64]) -> Planned {
+    let (out, words) = (placing.as_mut_ptr(), placing.len());
+    unsafe { foreign::kiwimound_plan_placing(sheet.as_ptr(), sheet.len(), out, words) }
 }
 
 /// Plans a sheet, with both buffers lent.
-pub fn plan_both(sheet: &[u8], listing: &mut [u8], placing: &mut [u8]) -> Planned {
+pub fn plan_both(sheet: &[u8], listing: &mut [u8], placing: &mut [u64]) -> Planned {
     let (bytes, n) = (sheet.as_ptr(), sheet.len());
     let (out, size) = (listing.as_mut_ptr(), listing.len());
     unsafe {

@@ -47,8 +47,8 @@ extern "C" {
         n: usize,
         listing: *mut u8,
         listing_size: usize,
-        placing: *mut u8,
-        placing_size: usize,
+        placing: *mut u64,
+        placing_words: usize,
     ) -> Planned;
     fn kiwimound_shortfall_rations(
         slots: u32,
@@ -93,7 +93,7 @@ impl Records<'_> {
     }
 
     /// Plans the day, with both buffers lent.
-    pub fn plan_both(&self, listing: &mut [u8], placing: &mut [u8]) -> Planned {
+    pub fn plan_both(&self, listing: &mut [u8], placing: &mut [u64]) -> Planned {
         unsafe {
             kiwimound_plan_rations_both(
                 self.slots,

@@ -7,7 +7,7 @@ mod method;
 mod search;
 mod sheet;
 
-pub use listing::{plan, plan_both, GRID_BYTES, PLAN_BYTES};
+pub use listing::{plan, plan_both, PLACING_WORDS, PLAN_BYTES};
 pub use loads::{bounds, shortfall, shortfall_by_slot};
 
 pub const SLOTS: usize = 96;

@@ -5,7 +5,7 @@ use crate::sheet::{read, Sheet, LINE};
 use crate::{Planned, RATIONS, SLOTS};
 
 pub const PLAN_BYTES: usize = 32_303;
-pub const GRID_BYTES: usize = RATIONS * SLOTS;
+pub const PLACING_WORDS: usize = SLOTS;
 const WORD: usize = 5;
 
 /// Tenths of a cent per energy unit, for each hour of the day.
@@ -123,18 +123,16 @@ fn put_held(sheet: &Sheet, held: &Held, out: &mut [u8]) -> usize {
     end
 }
 
-fn put_grid(sheet: &Sheet, day: &Result<Day, Held>, out: &mut [u8]) {
-    out[..GRID_BYTES].fill(0);
-    if let Ok(day) = day {
-        for (j, row) in out.chunks_exact_mut(SLOTS).take(sheet.rations).enumerate() {
-            for (cell, word) in row.iter_mut().zip(&day.fed[..sheet.slots]) {
-                *cell = (word >> j & 1) as u8;
-            }
-        }
+/// The rations of each slot, none past the end of the day or where it is held.
+fn put_placing(day: &Result<Day, Held>, out: &mut [u64]) {
+    let out = &mut out[..PLACING_WORDS];
+    match day {
+        Ok(day) => out.copy_from_slice(&day.fed),
+        Err(_) => out.fill(0),
     }
 }
 
-fn plan_into(bytes: &[u8], listing: &mut [u8], placing: Option<&mut [u8]>) -> Planned {
+fn plan_into(bytes: &[u8], listing: &mut [u8], placing: Option<&mut [u64]>) -> Planned {
     let refused = |number, line| Planned {
         number,
         line,
@@ -144,12 +142,12 @@ fn plan_into(bytes: &[u8], listing: &mut [u8], placing: Option<&mut [u8]>) -> Pl
         Ok(sheet) => sheet,
         Err((number, line)) => return refused(number, line),
     };
-    if listing.len() < PLAN_BYTES || placing.as_ref().is_some_and(|p| p.len() < GRID_BYTES) {
+    if listing.len() < PLAN_BYTES || placing.as_ref().is_some_and(|p| p.len() < PLACING_WORDS) {
         return refused(10, 0);
     }
     let day = plan_day(&sheet);
     if let Some(placing) = placing {
-        put_grid(&sheet, &day, placing);
+        put_placing(&day, placing);
     }
     let (number, length) = match &day {
         Ok(day) => (0, put_plan(&sheet, day, listing)),
@@ -168,6 +166,6 @@ pub fn plan(bytes: &[u8], listing: &mut [u8]) -> Planned {
 }
 
 /// Plans a sheet into a plan buffer and a placing buffer.
-pub fn plan_both(bytes: &[u8], listing: &mut [u8], placing: &mut [u8]) -> Planned {
+pub fn plan_both(bytes: &[u8], listing: &mut [u8], placing: &mut [u64]) -> Planned {
     plan_into(bytes, listing, Some(placing))
 }

@@ -1,19 +1,29 @@
 //! The twin is only worth timing if it answers as the planner must.
 
-use plain::{plan_both, GRID_BYTES, PLAN_BYTES};
+use plain::{plan_both, PLACING_WORDS, PLAN_BYTES};
 use reference::damage::{damage_meal, damaged_sheet};
 use reference::draws::Draws;
 use reference::generate::{any_sheet, tight_sheet, FULL, MIDDLE, SMALL};
 use reference::listing;
 
 fn check(sheet: &[u8]) -> u32 {
-    let (mut one, mut grid) = (vec![7; PLAN_BYTES], vec![7; GRID_BYTES]);
-    let (mut expected, mut expected_grid) = (one.clone(), grid.clone());
-    let answer = plan_both(sheet, &mut one, &mut grid);
-    let wanted = listing::plan(sheet, Some(&mut expected), Some(&mut expected_grid));
+    let (mut one, mut words) = (vec![7; PLAN_BYTES], vec![u64::MAX; PLACING_WORDS + 2]);
+    let (mut expected, mut expected_words) = (one.clone(), words.clone());
+    let answer = plan_both(sheet, &mut one, &mut words);
+    let wanted = listing::plan(sheet, Some(&mut expected), Some(&mut expected_words));
     assert_eq!((answer.number, answer.line, answer.length), wanted);
-    assert!(one == expected && grid == expected_grid);
+    assert!(one == expected && words == expected_words);
     answer.number
+}
+
+#[test]
+fn a_word_too_few_is_refused() {
+    let sheet = b"    1    1    0    0\n";
+    let (mut one, mut words) = (vec![7; PLAN_BYTES], vec![7; PLACING_WORDS]);
+    for few in [0, PLACING_WORDS - 1] {
+        assert_eq!(plan_both(sheet, &mut one, &mut words[..few]).number, 10);
+    }
+    assert_eq!((one, words), (vec![7; PLAN_BYTES], vec![7; PLACING_WORDS]));
 }
 
 #[test]

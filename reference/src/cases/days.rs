@@ -11,10 +11,10 @@ use super::sheets::{
     beyond_days, document_days, full_day, limit_days, refused_by, settled_days, text,
     too_long_sheet, SHEET_CHECKS,
 };
-use super::{digest, lent_buffer, Case};
+use super::{digest, digest_words, lent_buffer, lent_words, Case};
 use crate::draws::Draws;
 use crate::generate::{full_sheet, held_full_sheet, FULL, MIDDLE, SMALL};
-use crate::listing::{plan, program, PLACING_BUFFER, PLAN_BUFFER};
+use crate::listing::{plan, program, PLACING_WORDS, PLAN_BUFFER};
 
 /// How many generated sheets there are.
 const SHARES: [Share; 3] = [
@@ -131,10 +131,10 @@ fn digested(sheet: &[u8]) -> String {
 }
 
 fn planned(sheet: &[u8]) -> String {
-    let (mut listing, mut grid) = (lent_buffer(PLAN_BUFFER), lent_buffer(PLACING_BUFFER));
-    let (number, line, length) = plan(sheet, Some(&mut listing), Some(&mut grid));
-    let (listing, grid) = (digest(&listing[..length]), digest(&grid));
-    format!("D {number} {line} {length} {listing} {grid}\n")
+    let (mut listing, mut placing) = (lent_buffer(PLAN_BUFFER), lent_words(PLACING_WORDS));
+    let (number, line, length) = plan(sheet, Some(&mut listing), Some(&mut placing));
+    let (listing, placing) = (digest(&listing[..length]), digest_words(&placing));
+    format!("D {number} {line} {length} {listing} {placing}\n")
 }
 
 #[cfg(test)]

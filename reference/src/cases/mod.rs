@@ -100,11 +100,27 @@ pub fn lent_buffer(length: usize) -> Vec<u8> {
     (0..length).map(|i| (i * 7 + 3) as u8).collect()
 }
 
+/// The words a lent placing buffer holds before the call: at index i the value
+/// (i × 7 + 3) × 0x0101010101010101 modulo 2^64. The factor brings the number into all eight
+/// bytes, so that a word of which only a part is written gives another digest.
+pub fn lent_words(length: usize) -> Vec<u64> {
+    let word = |i: u64| (i * 7 + 3).wrapping_mul(0x0101_0101_0101_0101);
+    (0..length as u64).map(word).collect()
+}
+
 /// A digest of a buffer: from 0, h becomes (h × 31 + byte) modulo 65,521.
 pub fn digest(bytes: &[u8]) -> u32 {
     bytes
         .iter()
         .fold(0, |h, &b| (h * 31 + u32::from(b)) % 65_521)
+}
+
+/// A digest of a placing buffer: from 0, h becomes (h × 31 + word modulo 65,521) modulo
+/// 65,521.
+pub fn digest_words(words: &[u64]) -> u32 {
+    words
+        .iter()
+        .fold(0, |h, &word| (h * 31 + (word % 65_521) as u32) % 65_521)
 }
 
 /// The stream of these cases is parsed to the same cases and is no longer than so many bytes.
@@ -113,4 +129,23 @@ fn assert_streamed(cases: &[Case], most: usize) {
     let bytes = stream(cases);
     assert!(bytes.len() < most);
     assert_eq!(parse(&bytes), cases);
+}
+
+#[cfg(test)]
+mod tests {
+    use super::*;
+
+    #[test]
+    fn lent_words_and_their_digest_by_hand() {
+        let words = lent_words(38);
+        assert_eq!(words.len(), 38);
+        assert_eq!(words[0], 0x0303_0303_0303_0303);
+        assert_eq!(words[1], 0x0a0a_0a0a_0a0a_0a0a);
+        // 262 is 256 + 6: the bytes of 1, one place up, and the bytes of 6.
+        assert_eq!(words[37], 0x0707_0707_0707_0706);
+        assert_eq!(digest_words(&[]), 0);
+        assert_eq!(digest_words(&[2, 65_521, 3]), 2 * 961 + 3);
+        // 2^16 is 15 modulo 65,521, so 2^64 is 15^4.
+        assert_eq!(digest_words(&[u64::MAX]), 50_625 - 1);
+    }
 }

@@ -1,12 +1,12 @@
 //! Cases for the planning calls: `P` lends a plan buffer, `G` a placing buffer, `B`
 //! both and `N` none; `C` compares two sheets. The payload has two parts. For `C`
 //! they are the two sheets, else the lengths of the lent buffers, one a line, and
-//! the sheet.
+//! the sheet. A plan buffer's length is in bytes, a placing buffer's in words.
 
 mod comparing;
 mod planning;
 
-use super::{digest, lent_buffer, numbers_of, text_of, Case};
+use super::{digest, digest_words, lent_buffer, lent_words, numbers_of, text_of, Case};
 use crate::listing::{compare, plan};
 
 /// All cases of this gate program.
@@ -29,21 +29,24 @@ fn answer(case: &Case) -> String {
         let (number, line, same) = compare(first, sheet);
         return format!("C {number} {line} {}\n", u32::from(same));
     }
-    let mut buffers: Vec<Vec<u8>> = numbers_of(first)
-        .into_iter()
-        .map(|length| lent_buffer(length as usize))
-        .collect();
-    let (number, line, length) = match (case.operation, &mut buffers[..]) {
-        (b'P', [listing]) => plan(sheet, Some(listing), None),
-        (b'G', [grid]) => plan(sheet, None, Some(grid)),
-        (b'B', [listing, grid]) => plan(sheet, Some(listing), Some(grid)),
-        (b'N', []) => plan(sheet, None, None),
+    let (bytes, words) = match (case.operation, &numbers_of(first)[..]) {
+        (b'P', &[bytes]) => (Some(bytes), None),
+        (b'G', &[words]) => (None, Some(words)),
+        (b'B', &[bytes, words]) => (Some(bytes), Some(words)),
+        (b'N', []) => (None, None),
         (other, _) => panic!("no operation {other} with so many buffers"),
     };
+    let mut listing = bytes.map(|length| lent_buffer(length as usize));
+    let mut placing = words.map(|length| lent_words(length as usize));
+    let (number, line, length) = plan(sheet, listing.as_deref_mut(), placing.as_deref_mut());
     let mut text = format!("{} {number} {line} {length}\n", case.operation as char);
-    if !buffers.is_empty() {
-        let digests = buffers.iter().map(|buffer| format!(" {}", digest(buffer)));
-        text += &format!("D{}\n", digests.collect::<String>());
+    let digests = [
+        listing.map(|bytes| digest(&bytes)),
+        placing.map(|words| digest_words(&words)),
+    ];
+    if digests.iter().any(Option::is_some) {
+        let numbers = digests.iter().flatten().map(|digest| format!(" {digest}"));
+        text += &format!("D{}\n", numbers.collect::<String>());
     }
     text
 }
@@ -60,11 +63,11 @@ fn compare_case(first: &[u8], second: &[u8]) -> Case {
 
 #[cfg(test)]
 mod tests {
-    use super::planning::LONGER;
+    use super::planning::{LONGER, MOST_WORDS};
     use super::*;
     use crate::cases::assert_streamed;
     use crate::cases::sheets::{first_day, held_day, text};
-    use crate::listing::{PLACING_BUFFER, PLAN_BUFFER};
+    use crate::listing::{PLACING_WORDS, PLAN_BUFFER};
 
     #[test]
     fn the_stream_holds_the_cases() {
@@ -76,8 +79,9 @@ mod tests {
     fn no_case_lends_more_than_the_program_has_room_for() {
         for case in cases() {
             let most: &[usize] = match case.operation {
-                b'P' | b'G' => &[LONGER],
-                b'B' => &[LONGER, PLAN_BUFFER],
+                b'P' => &[LONGER],
+                b'G' => &[MOST_WORDS],
+                b'B' => &[LONGER, MOST_WORDS],
                 _ => continue,
             };
             let lengths = numbers_of(case.parts().0);
@@ -111,21 +115,26 @@ mod tests {
     #[test]
     fn the_first_day_and_the_held_day_are_answered() {
         let (first, held) = (text(&first_day()), text(&held_day()));
-        let (listing, grid) = (lent_buffer(PLAN_BUFFER), lent_buffer(PLACING_BUFFER));
+        let (listing, placing) = (lent_buffer(PLAN_BUFFER), lent_words(PLACING_WORDS));
+        let mut first_words = [0; PLACING_WORDS];
+        first_words[..4].copy_from_slice(&[0b001, 0b001, 0b110, 0b010]);
         let starts = |case: &Case, start: &str| assert!(answer(case).starts_with(start));
         starts(&plan_case(b'P', &[PLAN_BUFFER], &first), "P 0 0 236\nD ");
         starts(&plan_case(b'P', &[PLAN_BUFFER], &held), "P 12 0 47\nD ");
-        starts(&plan_case(b'G', &[PLACING_BUFFER], &first), "G 0 0 0\nD ");
         assert_eq!(
-            answer(&plan_case(b'G', &[PLACING_BUFFER], &held)),
+            answer(&plan_case(b'G', &[PLACING_WORDS], &first)),
+            format!("G 0 0 0\nD {}\n", digest_words(&first_words))
+        );
+        assert_eq!(
+            answer(&plan_case(b'G', &[PLACING_WORDS], &held)),
             "G 12 0 0\nD 0\n"
         );
         assert_eq!(
-            answer(&plan_case(b'B', &[PLAN_BUFFER - 1, PLACING_BUFFER], &held)),
+            answer(&plan_case(b'B', &[PLAN_BUFFER - 1, PLACING_WORDS], &held)),
             format!(
                 "B 10 0 0\nD {} {}\n",
                 digest(&listing[..PLAN_BUFFER - 1]),
-                digest(&grid)
+                digest_words(&placing)
             )
         );
         assert_eq!(answer(&plan_case(b'N', &[], &first)), "N 0 0 0\n");

@@ -1,4 +1,4 @@
-//! Planning with each combination of buffers, one byte too short, exact and longer.
+//! Planning with each combination of buffers, one byte or word too short, exact and longer.
 
 use super::{plan_case, Case};
 use crate::cases::bill::{dear_days, rounding_days, start_days};
@@ -10,8 +10,8 @@ use crate::cases::sheets::{
 use crate::damage::damaged_sheet;
 use crate::draws::Draws;
 use crate::generate::{full_sheet, held_full_sheet, held_sheet, tight_sheet, MIDDLE, SMALL};
-use crate::listing::{PLACING_BUFFER, PLAN_BUFFER};
-use crate::sheet::LINE;
+use crate::listing::{PLACING_WORDS, PLAN_BUFFER};
+use crate::sheet::{LINE, MOST_RATIONS, MOST_SLOTS};
 
 pub fn cases() -> Vec<Case> {
     let mut cases = Vec::new();
@@ -71,43 +71,51 @@ fn generated_cases() -> Vec<Case> {
 fn exact_buffers(sheet: &[u8]) -> Vec<Case> {
     vec![
         plan_case(b'P', &[PLAN_BUFFER], sheet),
-        plan_case(b'G', &[PLACING_BUFFER], sheet),
-        plan_case(b'B', &[PLAN_BUFFER, PLACING_BUFFER], sheet),
+        plan_case(b'G', &[PLACING_WORDS], sheet),
+        plan_case(b'B', &[PLAN_BUFFER, PLACING_WORDS], sheet),
         plan_case(b'N', &[], sheet),
     ]
 }
 
-/// Each operation with buffers of no byte, one byte too short, exact, one byte longer and
-/// more, with a plan buffer that lacks the line of the bill, and with each buffer as long
-/// as the other one must be.
+/// Each operation with buffers of length 0, one too short, exact, one longer and more, and
+/// with a plan buffer that lacks the line of the bill. A placing buffer is counted in words:
+/// to tell this from a count of bytes, there are placing buffers with as many words as 96
+/// bytes make and with a word for each byte of 96 words, and a plan buffer of 96 bytes.
 fn all_buffers(sheet: &[u8]) -> Vec<Case> {
     let listings = [
         0,
-        PLACING_BUFFER,
+        MOST_WORDS,
         PLAN_BUFFER - LINE,
         PLAN_BUFFER - 1,
         PLAN_BUFFER,
         PLAN_BUFFER + 1,
         LONGER,
     ];
-    let grids = [
+    let placings = [
         0,
-        PLACING_BUFFER - 1,
-        PLACING_BUFFER,
-        PLACING_BUFFER + 1,
-        PLAN_BUFFER,
+        PLACING_WORDS / WORD,
+        PLACING_WORDS - 1,
+        PLACING_WORDS,
+        PLACING_WORDS + 1,
+        PLACING_WORDS * WORD,
+        MOST_WORDS,
     ];
     let mut cases = vec![plan_case(b'N', &[], sheet)];
     cases.extend(listings.map(|length| plan_case(b'P', &[length], sheet)));
-    cases.extend(grids.map(|length| plan_case(b'G', &[length], sheet)));
+    cases.extend(placings.map(|length| plan_case(b'G', &[length], sheet)));
     for listing in [PLAN_BUFFER - 1, PLAN_BUFFER, PLAN_BUFFER + 1, LONGER] {
-        for grid in [PLACING_BUFFER - 1, PLACING_BUFFER, PLACING_BUFFER + 100] {
-            cases.push(plan_case(b'B', &[listing, grid], sheet));
+        for placing in [PLACING_WORDS - 1, PLACING_WORDS, PLACING_WORDS + 100] {
+            cases.push(plan_case(b'B', &[listing, placing], sheet));
         }
     }
-    cases.push(plan_case(b'B', &[PLACING_BUFFER, PLAN_BUFFER], sheet));
+    cases.push(plan_case(b'B', &[PLACING_WORDS, MOST_WORDS], sheet));
     cases
 }
 
 /// A plan buffer longer than it must be: the most that the gate program has room for.
 pub const LONGER: usize = 32_782;
+/// A placing buffer with a word for each ration and slot: the most words that the gate
+/// program has room for. As a plan buffer's length in bytes it is too short.
+pub const MOST_WORDS: usize = (MOST_RATIONS * MOST_SLOTS) as usize;
+/// Bytes of a word.
+const WORD: usize = 8;

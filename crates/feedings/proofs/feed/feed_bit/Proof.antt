@@ -1,5 +1,6 @@
 -- `feedings::feed::feed_bit` meets its contract. Assumes nothing.
-use Rattle.feedings.specs.ScheduleWordLaws.{bit-below, fed-bit-yes, fed-bit-no}
+use Rattle.common.specs.Bits.{bit-below}
+use Rattle.feedings.specs.ScheduleWordLaws.{fed-bit-yes, fed-bit-no}
 use borrow.Author.Needs.{needs}
 use Rattle.feedings.proofs.feed.feed_bit.Statement.{statement}
 use Rattle.feedings.proofs.feed.feed_bit.Tie as tie

@@ -1,10 +1,11 @@
 -- `planning::calls::plan_both_of` meets its contract. Assumes nothing.
 use mathlib.Core.Path.{_∙_}
-use Rattle.common.specs.Tests.{or-left, or-right}
 use mathlib.Core.Bool.{_||_}
-use Rattle.planning.specs.Problem.{alone, listingOf, gridFor}
-use Rattle.planning.specs.Planning.{shortPlan, shortGrid}
-use Rattle.planning.specs.CallAnswers.{short-plan, room-plan, short-grid, room-grid, neither, listed-read, listed-short, listed-day, placed-read, placed-short, placed-day}
+use Rattle.common.specs.Tests.{or-left, or-right}
+use Rattle.planning.specs.Problem.{alone, listingOf, wordsFor}
+use Rattle.planning.specs.Planning.{shortPlan, shortPlacing}
+use Rattle.planning.specs.DayLaws.{fed-long, words-written}
+use Rattle.planning.specs.CallAnswers.{short-plan, room-plan, short-placing, room-placing, neither, listed-read, listed-short, listed-day, placed-read, placed-short, placed-day}
 use borrow.Author.Needs.{needs}
 use Rattle.planning.proofs.calls.plan_both_of.Statement.{statement}
 use Rattle.planning.proofs.calls.plan_both_of.Tie as tie
@@ -15,8 +16,9 @@ refuse-requires c κs = search needs
 returns : tie.Need-returns
 returns c = λ own s h.
     let n = c .before .if1 .taken in
-    let l = listed-read h (alone s) (shortPlan (c .before .before .before .before .before .args .listing .now) || shortGrid (c .before .before .before .before .before .args .placing .now)) n (listingOf (alone s)) (c .before .before .before .before .before .args .listing .now) in
-    ((c .refuse .ensures ∙ l .0, l .1), placed-read h (alone s) (shortPlan (c .before .before .before .before .before .args .listing .now) || shortGrid (c .before .before .before .before .before .args .placing .now)) n (gridFor (alone s)) (c .before .before .before .before .before .args .placing .now))
+    let short = shortPlan (c .before .before .before .before .before .args .listing .now) || shortPlacing (c .before .before .before .before .before .args .placing .now) in
+    let l = listed-read h (alone s) short n (listingOf (alone s)) (c .before .before .before .before .before .args .listing .now) in
+    ((c .refuse .ensures ∙ l .0, l .1), placed-read h (alone s) short n (wordsFor (alone s)) (c .before .before .before .before .before .args .placing .now))
 
 refuse-requires-2 : tie.Need-refuse-requires-2
 refuse-requires-2 c κs = search needs
@@ -24,9 +26,10 @@ refuse-requires-2 c κs = search needs
 returns-2 : tie.Need-returns-2
 returns-2 c = λ own s h.
     let z = c .before .before .if1 .left in
-    let k = or-left (shortGrid (c .before .before .before .before .before .before .args .placing .now)) (short-plan (c .before .before .before .before .before .before .args .listing .now) (c .before .if2 .taken)) in
-    let l = listed-short h (alone s) (shortPlan (c .before .before .before .before .before .before .args .listing .now) || shortGrid (c .before .before .before .before .before .before .args .placing .now)) z k (listingOf (alone s)) (c .before .before .before .before .before .before .args .listing .now) in
-    ((c .refuse2 .ensures ∙ l .0, l .1), placed-short h (alone s) (shortPlan (c .before .before .before .before .before .before .args .listing .now) || shortGrid (c .before .before .before .before .before .before .args .placing .now)) z k (gridFor (alone s)) (c .before .before .before .before .before .before .args .placing .now))
+    let short = shortPlan (c .before .before .before .before .before .before .args .listing .now) || shortPlacing (c .before .before .before .before .before .before .args .placing .now) in
+    let k = or-left (shortPlacing (c .before .before .before .before .before .before .args .placing .now)) (short-plan (c .before .before .before .before .before .before .args .listing .now) (c .before .if2 .taken)) in
+    let l = listed-short h (alone s) short z k (listingOf (alone s)) (c .before .before .before .before .before .before .args .listing .now) in
+    ((c .refuse2 .ensures ∙ l .0, l .1), placed-short h (alone s) short z k (wordsFor (alone s)) (c .before .before .before .before .before .before .args .placing .now))
 
 refuse-requires-3 : tie.Need-refuse-requires-3
 refuse-requires-3 c κs = search needs
@@ -34,23 +37,21 @@ refuse-requires-3 c κs = search needs
 returns-3 : tie.Need-returns-3
 returns-3 c = λ own s h.
     let z = c .before .before .before .if1 .left in
-    let k = or-right (shortPlan (c .before .before .before .before .before .before .before .args .listing .now)) (short-grid (c .before .before .before .before .before .before .before .args .placing .now) (c .before .if3 .taken)) in
-    let l = listed-short h (alone s) (shortPlan (c .before .before .before .before .before .before .before .args .listing .now) || shortGrid (c .before .before .before .before .before .before .before .args .placing .now)) z k (listingOf (alone s)) (c .before .before .before .before .before .before .before .args .listing .now) in
-    ((c .refuse3 .ensures ∙ l .0, l .1), placed-short h (alone s) (shortPlan (c .before .before .before .before .before .before .before .args .listing .now) || shortGrid (c .before .before .before .before .before .before .before .args .placing .now)) z k (gridFor (alone s)) (c .before .before .before .before .before .before .before .args .placing .now))
+    let short = shortPlan (c .before .before .before .before .before .before .before .args .listing .now) || shortPlacing (c .before .before .before .before .before .before .before .args .placing .now) in
+    let k = or-right (shortPlan (c .before .before .before .before .before .before .before .args .listing .now)) (short-placing (c .before .before .before .before .before .before .before .args .placing .now) (c .before .if3 .taken)) in
+    let l = listed-short h (alone s) short z k (listingOf (alone s)) (c .before .before .before .before .before .before .before .args .listing .now) in
+    ((c .refuse3 .ensures ∙ l .0, l .1), placed-short h (alone s) short z k (wordsFor (alone s)) (c .before .before .before .before .before .before .before .args .placing .now))
 
 day-of-requires : tie.Need-day-of-requires
 day-of-requires c κs = record { some = c .before .before .before .before .before .before .pre; zero = c .before .before .if1 .left }
 
-place-day-requires : tie.Need-place-day-requires
-place-day-requires c κs = (
-  record { problem = alone _; day = c .before .day-of .ensures _ _ (c .before .before .before .before .before .before .before .before .pre .read) (c .before .before .before .before .if1 .left) },
-  c .before .before .if3 .left,
-)
+put-words-requires : tie.Need-put-words-requires
+put-words-requires c κs = (c .before .before .before .before .if3 .left, fed-long (c .before .before .before .day-of .ensures _ _ (c .before .before .before .before .before .before .before .before .before .before .pre .read) (c .before .before .before .before .before .before .if1 .left)))
 
 list-day-requires : tie.Need-list-day-requires
 list-day-requires c κs = (
-  record { problem = alone _; day = c .before .before .before .before .before .day-of .ensures _ _ (c .before .before .before .before .before .before .before .before .before .before .before .before .pre .read) (c .before .before .before .before .before .before .before .before .if1 .left) },
-  c .before .before .before .before .before .before .before .if2 .left,
+  record { problem = alone _; day = c .before .before .before .before .before .before .before .day-of .ensures _ _ (c .before .before .before .before .before .before .before .before .before .before .before .before .before .before .pre .read) (c .before .before .before .before .before .before .before .before .before .before .if1 .left) },
+  c .before .before .before .before .before .before .before .before .before .if2 .left,
 )
 
 number-of-requires : tie.Need-number-of-requires
@@ -64,12 +65,15 @@ same-length-2 c = search needs
 
 returns-4 : tie.Need-returns-4
 returns-4 c = λ own s h.
-    let z = c .before .before .before .before .before .before .before .before .before .before .before .before .if1 .left in
-    let d = c .before .before .before .before .before .before .before .before .before .day-of .ensures own s h z in
-    let k = neither (shortPlan (c .before .before .before .before .before .before .before .before .before .before .before .before .before .before .before .before .args .listing .now)) (shortGrid (c .before .before .before .before .before .before .before .before .before .before .before .before .before .before .before .before .args .placing .now)) (room-plan (c .before .before .before .before .before .before .before .before .before .before .before .before .before .before .before .before .args .listing .now) (c .before .before .before .before .before .before .before .before .before .before .before .if2 .left)) (room-grid (c .before .before .before .before .before .before .before .before .before .before .before .before .before .before .before .before .args .placing .now) (c .before .before .before .before .before .before .before .before .before .before .if3 .left)) in
-    let l = listed-day h (alone s) (shortPlan (c .before .before .before .before .before .before .before .before .before .before .before .before .before .before .before .before .args .listing .now) || shortGrid (c .before .before .before .before .before .before .before .before .before .before .before .before .before .before .before .before .args .placing .now)) z k d (c .before .before .before .list-day .ensures (alone s) d) in (
+    let z = c .before .before .before .before .before .before .before .before .before .before .before .before .before .before .if1 .left in
+    let d = c .before .before .before .before .before .before .before .before .before .before .before .day-of .ensures own s h z in
+    let listing = c .before .before .before .before .before .before .before .before .before .before .before .before .before .before .before .before .before .before .args .listing .now in
+    let placing = c .before .before .before .before .before .before .before .before .before .before .before .before .before .before .before .before .before .before .args .placing .now in
+    let short = shortPlan listing || shortPlacing placing in
+    let k = neither (shortPlan listing) (shortPlacing placing) (room-plan listing (c .before .before .before .before .before .before .before .before .before .before .before .before .before .if2 .left)) (room-placing placing (c .before .before .before .before .before .before .before .before .before .before .before .before .if3 .left)) in
+    let l = listed-day h (alone s) short z k d (c .before .before .before .list-day .ensures (alone s) d) in (
       ((λ i. record { number = c .number-of .ensures i; line = 0; length = c .before .before .before .list-day .result }) ∙ l .0, l .1),
-      placed-day h (alone s) (shortPlan (c .before .before .before .before .before .before .before .before .before .before .before .before .before .before .before .before .args .listing .now) || shortGrid (c .before .before .before .before .before .before .before .before .before .before .before .before .before .before .before .before .args .placing .now)) z k d (c .before .before .before .before .before .before .before .before .before .before .before .before .before .before .before .before .args .placing .now) _ (c .before .before .before .before .before .before .before .place-day .ensures (alone s) d),
+      placed-day h (alone s) short z k d placing _ (words-written d _ (c .before .before .before .before .before .before .before .put-words .ensures)),
     )
 
 pub plan-both-of-spec : {M : Type 1} → statement M
@@ -83,7 +87,7 @@ plan-both-of-spec =
     refuse-requires-3
     returns-3
     day-of-requires
-    place-day-requires
+    put-words-requires
     list-day-requires
     number-of-requires
     same-length

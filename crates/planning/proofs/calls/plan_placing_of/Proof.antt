@@ -1,8 +1,9 @@
 -- `planning::calls::plan_placing_of` meets its contract. Assumes nothing.
 use mathlib.Core.Path.{_∙_}
-use Rattle.planning.specs.Problem.{alone, gridFor}
-use Rattle.planning.specs.Planning.{shortGrid}
-use Rattle.planning.specs.CallAnswers.{short-grid, room-grid, unlisted-read, unlisted-short, unlisted-day, placed-read, placed-short, placed-day}
+use Rattle.planning.specs.Problem.{alone, wordsFor}
+use Rattle.planning.specs.Planning.{shortPlacing}
+use Rattle.planning.specs.DayLaws.{fed-long, words-written}
+use Rattle.planning.specs.CallAnswers.{short-placing, room-placing, unlisted-read, unlisted-short, unlisted-day, placed-read, placed-short, placed-day}
 use borrow.Author.Needs.{needs}
 use Rattle.planning.proofs.calls.plan_placing_of.Statement.{statement}
 use Rattle.planning.proofs.calls.plan_placing_of.Tie as tie
@@ -11,7 +12,10 @@ refuse-requires : tie.Need-refuse-requires
 refuse-requires c κs = search needs
 
 returns : tie.Need-returns
-returns c = λ own s h. let n = c .before .if1 .taken in (c .refuse .ensures ∙ unlisted-read h (alone s) (shortGrid (c .before .before .before .before .args .placing .now)) n, placed-read h (alone s) (shortGrid (c .before .before .before .before .args .placing .now)) n (gridFor (alone s)) (c .before .before .before .before .args .placing .now))
+returns c = λ own s h.
+    let n = c .before .if1 .taken in
+    let short = shortPlacing (c .before .before .before .before .args .placing .now) in
+    (c .refuse .ensures ∙ unlisted-read h (alone s) short n, placed-read h (alone s) short n (wordsFor (alone s)) (c .before .before .before .before .args .placing .now))
 
 refuse-requires-2 : tie.Need-refuse-requires-2
 refuse-requires-2 c κs = search needs
@@ -19,17 +23,15 @@ refuse-requires-2 c κs = search needs
 returns-2 : tie.Need-returns-2
 returns-2 c = λ own s h.
     let z = c .before .before .if1 .left in
-    let l = short-grid _ (c .before .if2 .taken) in
-    (c .refuse2 .ensures ∙ unlisted-short h (alone s) (shortGrid (c .before .before .before .before .before .args .placing .now)) z l, placed-short h (alone s) (shortGrid (c .before .before .before .before .before .args .placing .now)) z l (gridFor (alone s)) (c .before .before .before .before .before .args .placing .now))
+    let short = shortPlacing (c .before .before .before .before .before .args .placing .now) in
+    let l = short-placing _ (c .before .if2 .taken) in
+    (c .refuse2 .ensures ∙ unlisted-short h (alone s) short z l, placed-short h (alone s) short z l (wordsFor (alone s)) (c .before .before .before .before .before .args .placing .now))
 
 day-of-requires : tie.Need-day-of-requires
 day-of-requires c κs = record { some = c .before .before .before .before .pre; zero = c .before .if1 .left }
 
-place-day-requires : tie.Need-place-day-requires
-place-day-requires c κs = (
-  record { problem = alone _; day = c .before .day-of .ensures _ _ (c .before .before .before .before .before .before .pre .read) (c .before .before .before .if1 .left) },
-  c .before .before .if2 .left,
-)
+put-words-requires : tie.Need-put-words-requires
+put-words-requires c κs = (c .before .before .before .before .if2 .left, fed-long (c .before .before .before .day-of .ensures _ _ (c .before .before .before .before .before .before .before .before .pre .read) (c .before .before .before .before .before .if1 .left)))
 
 number-of-requires : tie.Need-number-of-requires
 number-of-requires c κs = search needs
@@ -42,11 +44,12 @@ same-length c = search needs
 
 returns-3 : tie.Need-returns-3
 returns-3 c = λ own s h.
-    let z = c .before .before .before .before .before .before .before .before .if1 .left in
-    let d = c .before .before .before .before .before .before .day-of .ensures own s h z in
-    let l = room-grid _ (c .before .before .before .before .before .before .before .if2 .left) in (
-      c .refuse3 .ensures ∙ (λ i. record { number = c .before .number-of .ensures i; line = 0; length = 0 }) ∙ unlisted-day h (alone s) (shortGrid (c .before .before .before .before .before .before .before .before .before .before .before .args .placing .now)) z l d,
-      placed-day h (alone s) (shortGrid (c .before .before .before .before .before .before .before .before .before .before .before .args .placing .now)) z l d (c .before .before .before .before .before .before .before .before .before .before .before .args .placing .now) _ (c .before .before .before .before .place-day .ensures (alone s) d),
+    let z = c .before .before .before .before .before .before .before .before .before .before .if1 .left in
+    let d = c .before .before .before .before .before .before .before .before .day-of .ensures own s h z in
+    let short = shortPlacing (c .before .before .before .before .before .before .before .before .before .before .before .before .before .args .placing .now) in
+    let l = room-placing _ (c .before .before .before .before .before .before .before .before .before .if2 .left) in (
+      c .refuse3 .ensures ∙ (λ i. record { number = c .before .number-of .ensures i; line = 0; length = 0 }) ∙ unlisted-day h (alone s) short z l d,
+      placed-day h (alone s) short z l d (c .before .before .before .before .before .before .before .before .before .before .before .before .before .args .placing .now) _ (words-written d _ (c .before .before .before .before .put-words .ensures)),
     )
 
 pub plan-placing-of-spec : {M : Type 1} → statement M
@@ -58,7 +61,7 @@ plan-placing-of-spec =
     refuse-requires-2
     returns-2
     day-of-requires
-    place-day-requires
+    put-words-requires
     number-of-requires
     refuse-requires-3
     same-length

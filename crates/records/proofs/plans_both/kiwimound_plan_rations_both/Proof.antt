@@ -23,7 +23,7 @@ use types.Run.{look, init, forget, stop, hop, fld, from, load, addr, and-then, n
 use denote.RattleType.{owns}
 use denote.Laws.{Is, shows}
 use denote.Plain.{uint-makes, uint-vals, uint-tells}
-use denote.Builtin.{u8, u32}
+use denote.Builtin.{u8, u32, u64}
 use denote.Ref.{RefT}
 use denote.Signature.{plain}
 use denote.Slice.{sliceVal, MutSlice, ShrSlice, Room, finally, slice-vals, mut-slice-tells, shr-slice-tells, shr-slice-lawful, shr-slice-copy}
@@ -62,7 +62,7 @@ use Rattle.records.proofs.plans_both.kiwimound_plan_rations_both.Statem
 use Rattle.records.proofs.plans_both.kiwimound_plan_rations_both.Code as code
 
 abbrev stayed : Stays (plan-rations-both.ended .signature .params) (plan-rations-both.ended .kept)
-stayed = (stay-none (λ _. u32) yes, (stay-none (λ _. u32) yes, (stay-none (λ _. u32) yes, (stay-none-slice (0 ∷ []) tt (plain (λ _. R.the-row)) yes, (gave-slice (1 ∷ []) tt (plain (λ _. u8)), (gave-slice (2 ∷ []) tt (plain (λ _. u8)), tt))))))
+stayed = (stay-none (λ _. u32) yes, (stay-none (λ _. u32) yes, (stay-none (λ _. u32) yes, (stay-none-slice (0 ∷ []) tt (plain (λ _. R.the-row)) yes, (gave-slice (1 ∷ []) tt (plain (λ _. u8)), (gave-slice (2 ∷ []) tt (plain (λ _. u64)), tt))))))
 
 -- the contract of the function that does the work
 abbrev Callee : {M : Type 1} (𝓤 : URA M) (H : Heap 𝓤) (A : Atoms 𝓤) (mem : Memory → SProp 𝓤) (run : Routine → Fun 𝓤) → Contract 𝓤
@@ -103,7 +103,7 @@ module _ {M : Type 1} (𝓤 : URA M) (H : Heap 𝓤) (A : Atoms 𝓤) (W : Given
   Own₁ = MutSlice (named 1) κ₁ u8 .own x₁ (v₁ ∷ [])
 
   abbrev Own₂ : Fml
-  Own₂ = MutSlice (named 2) κ₂ u8 .own x₂ (v₂ ∷ [])
+  Own₂ = MutSlice (named 2) κ₂ u64 .own x₂ (v₂ ∷ [])
 
   -- what the covered function is passed, and that it has what it asks
   abbrev passed : Val → Callee 𝓤 H A mem run .Ghost
@@ -117,19 +117,19 @@ module _ {M : Type 1} (𝓤 : URA M) (H : Heap 𝓤) (A : Atoms 𝓤) (W : Given
   abbrev Said : Planned → List ℕ → List ℕ → Type 0
   Said r z₁ z₂ = ReadBoth f ys₁ z₁ ys₂ z₂ r
 
-  exits : (r : Planned) (w : Val) (z₁ : List ℕ) (z₂ : List ℕ) → Said r z₁ z₂ → length z₁ ≡ length ys₁ → length z₂ ≡ length ys₂ → ent 𝓤 (⋆ 𝓤 H A (‵ (T.the-row .own r (w ∷ [])) ∷ (‵ (flft κ₁ q₁) ⊛ ‵ (flft κ₂ q₂) ⊛ ‵ ftrue) ∷ ‵ (finally u8 γ₁ z₁) ∷ ‵ (finally u8 γ₂ z₂) ∷ (‵ (flft κ q) ⊛ ‵ ftrue) ∷ ‵ Own ∷ [])) (Post w)
+  exits : (r : Planned) (w : Val) (z₁ : List ℕ) (z₂ : List ℕ) → Said r z₁ z₂ → length z₁ ≡ length ys₁ → length z₂ ≡ length ys₂ → ent 𝓤 (⋆ 𝓤 H A (‵ (T.the-row .own r (w ∷ [])) ∷ (‵ (flft κ₁ q₁) ⊛ ‵ (flft κ₂ q₂) ⊛ ‵ ftrue) ∷ ‵ (finally u8 γ₁ z₁) ∷ ‵ (finally u64 γ₂ z₂) ∷ (‵ (flft κ q) ⊛ ‵ ftrue) ∷ ‵ Own ∷ [])) (Post w)
   exits r w z₁ z₂ e m₁ m₂ =
-      qed W (‵ (T.the-row .own r (w ∷ [])) ∷ (‵ (flft κ₁ q₁) ⊛ ‵ (flft κ₂ q₂) ⊛ ‵ ftrue) ∷ ‵ (finally u8 γ₁ z₁) ∷ ‵ (finally u8 γ₂ z₂) ∷ (‵ (flft κ q) ⊛ ‵ ftrue) ∷ ‵ Own ∷ []) ∵
+      qed W (‵ (T.the-row .own r (w ∷ [])) ∷ (‵ (flft κ₁ q₁) ⊛ ‵ (flft κ₂ q₂) ⊛ ‵ ftrue) ∷ ‵ (finally u8 γ₁ z₁) ∷ ‵ (finally u64 γ₂ z₂) ∷ (‵ (flft κ q) ⊛ ‵ ftrue) ∷ ‵ Own ∷ []) ∵
       suffices ! _ (ends-at 𝓤 H A plan-rations-both.ended stayed (plan-rations-both.clauses 𝓤 H A mem run) W (((κ, (κ₁, (κ₂, tt))), (q, (q₁, (q₂, tt))), tt, (a, (b, (c, (s, (x₁, (x₂, tt)))))), (vint w32 a ∷ [], (vint w32 b ∷ [], (vint w32 c ∷ [], (v ∷ [], (v₁ ∷ [], (v₂ ∷ [], tt))))))), tt) w r (tt, (tt, (tt, (tt, (z₁, (z₂, tt)))))) (tt, (tt, (tt, (tt, (m₁, (m₂, tt))))))) $ says ! (let h = e _ _ (records-read (recordSheet a b c ys)) in (h .0 .0, h .0 .1, h .1)) $
       move ! (4 ∷ []) $ split ! $ move ! (0 ∷ 3 ∷ []) $ join ! $ frame ! $ move ! (3 ∷ 0 ∷ []) $ fjoin ! $ move ! (2 ∷ 0 ∷ []) $ fjoin ! $ move ! (2 ∷ 0 ∷ []) $ fjoin ! $
       owned ! u32 (Is u32) (uint-makes 𝓤 H A W w32) c _ (refl, c-fits) $ fjoin ! $ owned ! u32 (Is u32) (uint-makes 𝓤 H A W w32) b _ (refl, b-fits) $ fjoin ! $
       owned ! u32 (Is u32) (uint-makes 𝓤 H A W w32) a _ (refl, a-fits) $ fjoin ! $ done !
 
   module _ (C : Calls 𝓤 H) (Λ : Loops 𝓤 H) (fm : FmC 𝓤 H (W .laws) C) (known-read : Triple 𝓤 (C #read-rations) (ReadRations 𝓤 H A mem run)) (known : Triple 𝓤 (C #plan-both-of) (Callee 𝓤 H A mem run)) where
-    walk : Is (ShrSlice (named 0) κ R.the-row) s (v ∷ []) → Room u8 (length ys₁) → Room u8 (length ys₂) → ent 𝓤 (onEntry 𝓤 H A plan-rations-both.signature (κ, (κ₁, (κ₂, tt))) (q, (q₁, (q₂, tt))) (a, (b, (c, (s, (x₁, (x₂, tt)))))) (vint w32 a ∷ [], (vint w32 b ∷ [], (vint w32 c ∷ [], (v ∷ [], (v₁ ∷ [], (v₂ ∷ [], tt)))))))
+    walk : Is (ShrSlice (named 0) κ R.the-row) s (v ∷ []) → Room u8 (length ys₁) → Room u64 (length ys₂) → ent 𝓤 (onEntry 𝓤 H A plan-rations-both.signature (κ, (κ₁, (κ₂, tt))) (q, (q₁, (q₂, tt))) (a, (b, (c, (s, (x₁, (x₂, tt)))))) (vint w32 a ∷ [], (vint w32 b ∷ [], (vint w32 c ∷ [], (v ∷ [], (v₁ ∷ [], (v₂ ∷ [], tt)))))))
         (WpFn 𝓤 H C Λ code.function (vint w32 a ∷ vint w32 b ∷ vint w32 c ∷ v ∷ v₁ ∷ v₂ ∷ []) Post)
     walk is₀ room₁ room₂ =
-        qed W ((‵ (flft κ q) ⊛ ‵ (flft κ₁ q₁) ⊛ ‵ (flft κ₂ q₂) ⊛ ‵ ftrue) ∷ ‵ (owns (u32 ∷ u32 ∷ u32 ∷ ShrSlice (named 0) κ R.the-row ∷ MutSlice (named 1) κ₁ u8 ∷ MutSlice (named 2) κ₂ u8 ∷ []) (a, (b, (c, (s, (x₁, (x₂, tt)))))) (vint w32 a ∷ [], (vint w32 b ∷ [], (vint w32 c ∷ [], (v ∷ [], (v₁ ∷ [], (v₂ ∷ [], tt))))))) ∷ []) ∵ enter ! C Λ code.function (vint w32 a ∷ vint w32 b ∷ vint w32 c ∷ v ∷ v₁ ∷ v₂ ∷ []) _ $
+        qed W ((‵ (flft κ q) ⊛ ‵ (flft κ₁ q₁) ⊛ ‵ (flft κ₂ q₂) ⊛ ‵ ftrue) ∷ ‵ (owns (u32 ∷ u32 ∷ u32 ∷ ShrSlice (named 0) κ R.the-row ∷ MutSlice (named 1) κ₁ u8 ∷ MutSlice (named 2) κ₂ u64 ∷ []) (a, (b, (c, (s, (x₁, (x₂, tt)))))) (vint w32 a ∷ [], (vint w32 b ∷ [], (vint w32 c ∷ [], (v ∷ [], (v₁ ∷ [], (v₂ ∷ [], tt))))))) ∷ []) ∵ enter ! C Λ code.function (vint w32 a ∷ vint w32 b ∷ vint w32 c ∷ v ∷ v₁ ∷ v₂ ∷ []) _ $
         alloc1 ! (λ l₀. alloc1 ! (λ l₁. alloc1 ! (λ l₂. alloc1 ! (λ l₃. alloc1 ! (λ l₄. alloc1 ! (λ l₅. alloc1 ! (λ l₆. alloc1 ! (λ l₇. alloc1 ! (λ l₈. alloc1 ! (λ l₉. alloc1 ! (λ l₁₀. alloc1 ! (λ l₁₁. alloc0 ! $ params1 ! $
         pass1 ! (init ! 20 refl (tt, record { fits = a-fits })) $ pass1 ! (init ! 18 refl (tt, record { fits = b-fits })) $ pass1 ! (init ! 16 refl (tt, record { fits = c-fits })) $ pass1 ! (init ! 14 refl (shr-slice-lawful 𝓤 H A W (named 0) κ R.the-row .typed s (v ∷ []) is₀ .0)) $ pass1 ! (init ! 12 refl (tt, (tt, (record { fits = room₁ .0 }, tt)))) $ pass1 ! (init ! 10 refl (tt, (tt, (record { fits = room₂ .0 }, tt)))) $ pass0 ! $
         -- the tokens and what is lent are taken apart; what a `&` owns is had twice, once for the exit
@@ -155,12 +155,12 @@ module _ {M : Type 1} (𝓤 : URA M) (H : Heap 𝓤) (A : Atoms 𝓤) (W : Given
     (known-read : Triple 𝓤 (𝓣 .C #read-rations) (ReadRations 𝓤 H A mem run)) (known : Triple 𝓤 (𝓣 .C #plan-both-of) (Callee 𝓤 H A mem run)) where
   walks : Walks 𝓤 H A plan-rations-both.ended stayed (WpFn 𝓤 H (𝓣 .C) (𝓣 .Λ) code.function) (plan-rations-both.clauses 𝓤 H A mem run)
   walks = walked 𝓤 H A plan-rations-both.ended stayed (plan-rations-both.clauses 𝓤 H A mem run) (WpFn 𝓤 H (𝓣 .C) (𝓣 .Λ) code.function) (λ κs. (uint-vals w32, (uint-vals w32, (uint-vals w32, (slice-vals, (slice-vals, (slice-vals, tt)))))))
-      (λ κs. (uint-tells w32, (uint-tells w32, (uint-tells w32, (shr-slice-tells (named 0) (κs .0) R.the-row, (mut-slice-tells (named 1) (κs .1 .0) u8, (mut-slice-tells (named 2) (κs .1 .1 .0) u8, tt)))))))
+      (λ κs. (uint-tells w32, (uint-tells w32, (uint-tells w32, (shr-slice-tells (named 0) (κs .0) R.the-row, (mut-slice-tells (named 1) (κs .1 .0) u8, (mut-slice-tells (named 2) (κs .1 .1 .0) u64, tt)))))))
       (λ κs qs bounds a g are. via 𝓤 _ (fst∗ 𝓤 _ (emp 𝓤)) (walk 𝓤 H A W mem run (κs .0) (κs .1 .0) (κs .1 .1 .0) (qs .0) (qs .1 .0) (qs .1 .1 .0) (a .0) (a .1 .0) (a .1 .1 .0) (are .0 .1) (are .1 .0 .1) (are .1 .1 .0 .1) (a .1 .1 .1 .0 .ptr .0) (a .1 .1 .1 .0 .ptr .1) (a .1 .1 .1 .0 .name) (a .1 .1 .1 .0 .now) (a .1 .1 .1 .1 .0 .ptr .0) (a .1 .1 .1 .1 .0 .ptr .1) (a .1 .1 .1 .1 .0 .name) (a .1 .1 .1 .1 .0 .now) (a .1 .1 .1 .1 .1 .0 .ptr .0) (a .1 .1 .1 .1 .1 .0 .ptr .1) (a .1 .1 .1 .1 .1 .0 .name) (a .1 .1 .1 .1 .1 .0 .now)
       (𝓣 .C) (𝓣 .Λ) (fmOf 𝓤 H (W .laws) 𝓣) known-read known (are .1 .1 .1 .0) (are .1 .1 .1 .1 .0 .0 .1) (are .1 .1 .1 .1 .1 .0 .0 .1)))
 
   meets : Meets 𝓤 H A plan-rations-both.signature (WpFn 𝓤 H (𝓣 .C) (𝓣 .Λ) code.function) (plan-rations-both.spec 𝓤 H A mem run)
-  meets = walk-meets 𝓤 H A plan-rations-both.ended stayed W (goes-none 𝓤 H A W 3 (λ _. u32) yes (λ κs x f. refl), (goes-none 𝓤 H A W 3 (λ _. u32) yes (λ κs x f. refl), (goes-none 𝓤 H A W 3 (λ _. u32) yes (λ κs x f. refl), (goes-none-slice 𝓤 H A W 3 (0 ∷ []) tt (plain (λ _. R.the-row)) yes, (goes-gave-slice 𝓤 H A W 3 1 tt (plain (λ _. u8)), (goes-gave-slice 𝓤 H A W 3 2 tt (plain (λ _. u8)), tt))))))
+  meets = walk-meets 𝓤 H A plan-rations-both.ended stayed W (goes-none 𝓤 H A W 3 (λ _. u32) yes (λ κs x f. refl), (goes-none 𝓤 H A W 3 (λ _. u32) yes (λ κs x f. refl), (goes-none 𝓤 H A W 3 (λ _. u32) yes (λ κs x f. refl), (goes-none-slice 𝓤 H A W 3 (0 ∷ []) tt (plain (λ _. R.the-row)) yes, (goes-gave-slice 𝓤 H A W 3 1 tt (plain (λ _. u8)), (goes-gave-slice 𝓤 H A W 3 2 tt (plain (λ _. u64)), tt))))))
       (plan-rations-both.clauses 𝓤 H A mem run) (WpFn 𝓤 H (𝓣 .C) (𝓣 .Λ) code.function) (WpFn-mono 𝓤 H (W .laws) 𝓣 code.function) walks
 
 pub kiwimound-plan-rations-both-spec : {M : Type 1} → stated.statement M
