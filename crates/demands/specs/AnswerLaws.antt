@@ -41,7 +41,7 @@ use Rattle.planning.specs.InputLaws.{no-words}
 use Rattle.planning.specs.WrittenLaws.{writes-planned, writes-held}
 use Rattle.planning.specs.ProblemLaws.{feedings-sound, listing-plan, listing-held, words-plan, words-held, length-listing}
 use Rattle.planning.specs.AloneLaws.{left-alone, room-alone, may-alone, alone-in-range}
-use Rattle.planning.specs.CallAnswers.{writes-nothing, listed-nothing, placed-nothing}
+use Rattle.planning.specs.CallAnswers.{long-placing, writes-nothing, listed-nothing, placed-nothing}
 use Rattle.program.specs.Program.{output}
 use Rattle.records.specs.Records.{recordFaults}
 use Rattle.demands.specs.Outcome.{AloneIs}
@@ -102,10 +102,6 @@ front-over text old l =
 pub long-plan : (listing : List ℕ) → shortPlan listing ≡ false → planBytes ≤ length listing
 unfolding shortPlan
 long-plan listing e = ltb-false (length listing) planBytes e
-
-pub long-placing : (placing : List ℕ) → shortPlacing placing ≡ false → placingWords ≤ length placing
-unfolding shortPlacing
-long-placing placing e = ltb-false (length placing) placingWords e
 
 -- Calls that plan ------------------------------------------------------------------------------
 

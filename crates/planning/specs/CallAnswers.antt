@@ -4,8 +4,9 @@ use mathlib.Core.Path.{_≡_, refl, sym, ap, subst, _∙_}
 use mathlib.Core.Bool.{Bool, true, false, not, _||_}
 use mathlib.Core.List.{List, _++_}
 use Prim.Native.Nat.{ℕ, _≤_, _<_}
+use lib.Dec.{ltb}
 use lib.ListN.{length}
-use borrow.Author.Tests.{lt-ltb, le-ltb, ne-eqb}
+use borrow.Author.Tests.{lt-ltb, le-ltb, ltb-false, ne-eqb}
 use Rattle.checks.specs.declared.Refusal.{Refusal}
 use Rattle.sheet.specs.declared.Reading.{Reading}
 use Rattle.checks.specs.Refusals.{shortBuffer, noPlacing}
@@ -31,9 +32,14 @@ pub room-plan : (out : List ℕ) → planBytes ≤ length out → shortPlan out 
 unfolding shortPlan
 room-plan out l = le-ltb (length out) planBytes l
 
-pub short-placing : (out : List ℕ) → length out < placingWords → shortPlacing out ≡ true
+-- what the test of a placing buffer gives
+pub tested-placing : (out : List ℕ) {x : Bool} → x ≡ ltb (length out) placingWords → shortPlacing out ≡ x
 unfolding shortPlacing
-short-placing out l = lt-ltb (length out) placingWords l
+tested-placing out e = sym e
+
+pub long-placing : (out : List ℕ) → shortPlacing out ≡ false → placingWords ≤ length out
+unfolding shortPlacing
+long-placing out e = ltb-false (length out) placingWords e
 
 pub room-placing : (out : List ℕ) → placingWords ≤ length out → shortPlacing out ≡ false
 unfolding shortPlacing

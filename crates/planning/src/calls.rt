@@ -13,10 +13,11 @@ use stretches::Day;
 ghost use mathlib.Core.Path.{_≡_};
 ghost use mathlib.Core.Bool.{false, _||_};
 ghost use Prim.Native.Nat.{_≤_};
+ghost use lib.Dec.{ltb};
 ghost use lib.ListN.{length};
 ghost use Rattle.checks.specs.Sheet.{sheetOf};
 ghost use Rattle.sheet.specs.OwnChecks.{SomeReading};
-ghost use Rattle.plan_lines.specs.Sizes.{planBytes};
+ghost use Rattle.plan_lines.specs.Sizes.{planBytes, placingWords};
 ghost use Rattle.planning.specs.Problem.{alone, listingOf, wordsFor};
 ghost use Rattle.planning.specs.Planning.{planRefusal, shortPlan, shortPlacing, listedAnswer, unlistedAnswer, listingAfter, placingAfter};
 ghost use Rattle.planning.specs.Contracts.{ReadSheet, DayFound, SomeDay, DayListed, NumberOf, ReadListed, ReadPlaced, ReadBoth, ReadNumbered};
@@ -77,6 +78,13 @@ fn number_of(is_held: bool) -> u32
     if is_held { NO_PLACING } else { 0 }
 }
 
+// Whether a placing buffer of so many words is too short.
+fn is_short_placing(words: usize) -> bool
+    ensures { λ r. ⌜ r ≡ ltb words placingWords ⌝ }
+{
+    words < PLACING_WORDS
+}
+
 // Plans a sheet that was read, with a plan buffer lent.
 pub fn plan_of(sheet: Reading, listing: &mut [u8]) -> Planned
     requires { ⌜ SomeReading sheet ⌝ }
@@ -105,7 +113,7 @@ pub fn plan_placing_of(sheet: Reading, placing: &mut [u64]) -> Planned
     if sheet.number != 0 {
         return refuse(sheet.number, sheet.line);
     }
-    if placing.len() < PLACING_WORDS {
+    if is_short_placing(placing.len()) {
         return refuse(SHORT_BUFFER, 0);
     }
     let day = day_of(sheet);
@@ -125,7 +133,7 @@ pub fn plan_both_of(sheet: Reading, listing: &mut [u8], placing: &mut [u64]) -> 
     if listing.len() < PLAN_BYTES {
         return refuse(SHORT_BUFFER, 0);
     }
-    if placing.len() < PLACING_WORDS {
+    if is_short_placing(placing.len()) {
         return refuse(SHORT_BUFFER, 0);
     }
     let day = day_of(sheet);

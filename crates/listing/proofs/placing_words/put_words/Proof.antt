@@ -15,7 +15,7 @@ loop-holds : tie.Need-loop-holds Inv-loop μ-loop
 loop-holds c = copied-begin _ _ (omega (arith, c .pre .0, c .pre .1))
 
 sub-out : tie.Need-sub-out Inv-loop μ-loop
-sub-out c = c .before .loop .inv .from-one
+sub-out c = omega (arith, c .before .loop .inv .from-one)
 
 mul-out : tie.Need-mul-out Inv-loop μ-loop
 mul-out c = omega (arith, c .loop-test .taken)
@@ -24,7 +24,7 @@ element-copy-out-out : tie.Need-element-copy-out-out Inv-loop μ-loop
 element-copy-out-out c = omega (arith, c .loop-test .taken, c .before .loop .inv .from-one)
 
 sub-out-2 : tie.Need-sub-out-2 Inv-loop μ-loop
-sub-out-2 c = c .before .before .loop .inv .from-one
+sub-out-2 c = omega (arith, c .before .before .loop .inv .from-one)
 
 mul-out-2 : tie.Need-mul-out-2 Inv-loop μ-loop
 mul-out-2 c = omega (arith, c .before .loop-test .taken)

@@ -5,7 +5,7 @@ use Rattle.common.specs.Tests.{or-left, or-right}
 use Rattle.planning.specs.Problem.{alone, listingOf, wordsFor}
 use Rattle.planning.specs.Planning.{shortPlan, shortPlacing}
 use Rattle.planning.specs.DayLaws.{fed-long, words-written}
-use Rattle.planning.specs.CallAnswers.{short-plan, room-plan, short-placing, room-placing, neither, listed-read, listed-short, listed-day, placed-read, placed-short, placed-day}
+use Rattle.planning.specs.CallAnswers.{short-plan, room-plan, tested-placing, long-placing, neither, listed-read, listed-short, listed-day, placed-read, placed-short, placed-day}
 use borrow.Author.Needs.{needs}
 use Rattle.planning.proofs.calls.plan_both_of.Statement.{statement}
 use Rattle.planning.proofs.calls.plan_both_of.Tie as tie
@@ -31,27 +31,30 @@ returns-2 c = λ own s h.
     let l = listed-short h (alone s) short z k (listingOf (alone s)) (c .before .before .before .before .before .before .args .listing .now) in
     ((c .refuse2 .ensures ∙ l .0, l .1), placed-short h (alone s) short z k (wordsFor (alone s)) (c .before .before .before .before .before .before .args .placing .now))
 
+is-short-placing-requires : tie.Need-is-short-placing-requires
+is-short-placing-requires c κs = search needs
+
 refuse-requires-3 : tie.Need-refuse-requires-3
 refuse-requires-3 c κs = search needs
 
 returns-3 : tie.Need-returns-3
 returns-3 c = λ own s h.
-    let z = c .before .before .before .if1 .left in
-    let short = shortPlan (c .before .before .before .before .before .before .before .args .listing .now) || shortPlacing (c .before .before .before .before .before .before .before .args .placing .now) in
-    let k = or-right (shortPlan (c .before .before .before .before .before .before .before .args .listing .now)) (short-placing (c .before .before .before .before .before .before .before .args .placing .now) (c .before .if3 .taken)) in
-    let l = listed-short h (alone s) short z k (listingOf (alone s)) (c .before .before .before .before .before .before .before .args .listing .now) in
-    ((c .refuse3 .ensures ∙ l .0, l .1), placed-short h (alone s) short z k (wordsFor (alone s)) (c .before .before .before .before .before .before .before .args .placing .now))
+    let z = c .before .before .before .before .if1 .left in
+    let short = shortPlan (c .before .before .before .before .before .before .before .before .args .listing .now) || shortPlacing (c .before .before .before .before .before .before .before .before .args .placing .now) in
+    let k = or-right (shortPlan (c .before .before .before .before .before .before .before .before .args .listing .now)) (tested-placing (c .before .before .before .before .before .before .before .before .args .placing .now) (c .before .before .is-short-placing .ensures) ∙ c .before .if3 .taken) in
+    let l = listed-short h (alone s) short z k (listingOf (alone s)) (c .before .before .before .before .before .before .before .before .args .listing .now) in
+    ((c .refuse3 .ensures ∙ l .0, l .1), placed-short h (alone s) short z k (wordsFor (alone s)) (c .before .before .before .before .before .before .before .before .args .placing .now))
 
 day-of-requires : tie.Need-day-of-requires
-day-of-requires c κs = record { some = c .before .before .before .before .before .before .pre; zero = c .before .before .if1 .left }
+day-of-requires c κs = record { some = c .before .before .before .before .before .before .before .pre; zero = c .before .before .before .if1 .left }
 
 put-words-requires : tie.Need-put-words-requires
-put-words-requires c κs = (c .before .before .before .before .if3 .left, fed-long (c .before .before .before .day-of .ensures _ _ (c .before .before .before .before .before .before .before .before .before .before .pre .read) (c .before .before .before .before .before .before .if1 .left)))
+put-words-requires c κs = (long-placing (c .before .before .before .before .before .before .before .before .before .before .before .args .placing .now) (tested-placing (c .before .before .before .before .before .before .before .before .before .before .before .args .placing .now) (c .before .before .before .before .before .is-short-placing .ensures) ∙ c .before .before .before .before .if3 .left), fed-long (c .before .before .before .day-of .ensures _ _ (c .before .before .before .before .before .before .before .before .before .before .before .pre .read) (c .before .before .before .before .before .before .before .if1 .left)))
 
 list-day-requires : tie.Need-list-day-requires
 list-day-requires c κs = (
-  record { problem = alone _; day = c .before .before .before .before .before .before .before .day-of .ensures _ _ (c .before .before .before .before .before .before .before .before .before .before .before .before .before .before .pre .read) (c .before .before .before .before .before .before .before .before .before .before .if1 .left) },
-  c .before .before .before .before .before .before .before .before .before .if2 .left,
+  record { problem = alone _; day = c .before .before .before .before .before .before .before .day-of .ensures _ _ (c .before .before .before .before .before .before .before .before .before .before .before .before .before .before .before .pre .read) (c .before .before .before .before .before .before .before .before .before .before .before .if1 .left) },
+  c .before .before .before .before .before .before .before .before .before .before .if2 .left,
 )
 
 number-of-requires : tie.Need-number-of-requires
@@ -65,12 +68,12 @@ same-length-2 c = search needs
 
 returns-4 : tie.Need-returns-4
 returns-4 c = λ own s h.
-    let z = c .before .before .before .before .before .before .before .before .before .before .before .before .before .before .if1 .left in
+    let z = c .before .before .before .before .before .before .before .before .before .before .before .before .before .before .before .if1 .left in
     let d = c .before .before .before .before .before .before .before .before .before .before .before .day-of .ensures own s h z in
-    let listing = c .before .before .before .before .before .before .before .before .before .before .before .before .before .before .before .before .before .before .args .listing .now in
-    let placing = c .before .before .before .before .before .before .before .before .before .before .before .before .before .before .before .before .before .before .args .placing .now in
+    let listing = c .before .before .before .before .before .before .before .before .before .before .before .before .before .before .before .before .before .before .before .args .listing .now in
+    let placing = c .before .before .before .before .before .before .before .before .before .before .before .before .before .before .before .before .before .before .before .args .placing .now in
     let short = shortPlan listing || shortPlacing placing in
-    let k = neither (shortPlan listing) (shortPlacing placing) (room-plan listing (c .before .before .before .before .before .before .before .before .before .before .before .before .before .if2 .left)) (room-placing placing (c .before .before .before .before .before .before .before .before .before .before .before .before .if3 .left)) in
+    let k = neither (shortPlan listing) (shortPlacing placing) (room-plan listing (c .before .before .before .before .before .before .before .before .before .before .before .before .before .before .if2 .left)) (tested-placing placing (c .before .before .before .before .before .before .before .before .before .before .before .before .before .is-short-placing .ensures) ∙ c .before .before .before .before .before .before .before .before .before .before .before .before .if3 .left) in
     let l = listed-day h (alone s) short z k d (c .before .before .before .list-day .ensures (alone s) d) in (
       ((λ i. record { number = c .number-of .ensures i; line = 0; length = c .before .before .before .list-day .result }) ∙ l .0, l .1),
       placed-day h (alone s) short z k d placing _ (words-written d _ (c .before .before .before .before .before .before .before .put-words .ensures)),
@@ -84,6 +87,7 @@ plan-both-of-spec =
     returns
     refuse-requires-2
     returns-2
+    is-short-placing-requires
     refuse-requires-3
     returns-3
     day-of-requires
