@@ -1,5 +1,5 @@
 -- The days of 'Days at the edge' as one table: a question about a sheet's text, beside what document 01 says, and
--- requests 101 to 105 where they change that or say more. `answer` gives the answer of the definitions; a plan's
+-- requests 101 to 106 where they change that or say more. `answer` gives the answer of the definitions; a plan's
 -- numbers are read off the program's whole output. Assumes nothing.
 use mathlib.Core.Path.{_≡_, refl}
 use mathlib.Core.Bool.{Bool, false}
@@ -7,15 +7,16 @@ use mathlib.Core.List.{List, [], _∷_, map}
 use Prim.Native.Nat.{ℕ}
 use Prim.Native.String.{String}
 use lib.IntN.{ℤ, pos, negsuc}
+use lib.ListN.{replicate}
 use Rattle.checks.specs.Sheet.{sheetOf}
 use Rattle.lookup.specs.LookUp.{tankLines, lookUp}
 use Rattle.questions.specs.Text.{text}
 use Rattle.questions.specs.Calls.{shortfallOf, boundsOf}
 use Rattle.plan_lines.specs.Lines.{Line, line}
-use Rattle.planning.specs.Problem.{alone, countsOf}
+use Rattle.planning.specs.Problem.{alone, countsOf, wordsFor}
 use Rattle.planning.specs.ReadListing.{linesOf, headLine, stretchPart, feedPart, billOn}
 use Rattle.program.specs.Program.{output, explanation}
-use Rattle.demands.specs.Meanings.{listings, causes}
+use Rattle.demands.specs.Meanings.{listings, placings, causes}
 
 -- Questions and answers -------------------------------------------------------------
 
@@ -32,6 +33,8 @@ pub data Question : Type 0 where
   startsFor : Sheet → Question
   stretchesFor : Sheet → Question
   feedingsFor : Sheet → Question
+  -- the words of the placing buffer
+  placingFor : Sheet → Question
   -- the bill
   billFor : Sheet → Question
   -- the shortfall of the marked slots
@@ -64,6 +67,7 @@ answer (energyFor s) = number (headLine (outputLines s) .a)
 answer (startsFor s) = number (headLine (outputLines s) .b)
 answer (stretchesFor s) = lines (stretchPart (outputLines s))
 answer (feedingsFor s) = lines (feedPart (outputLines s))
+answer (placingFor s) = numbers (wordsFor (alone (sheetOf (text s))))
 answer (billFor s) = lines (billOn (outputLines s) ∷ [])
 answer (shortfallFor s marks) = let r = shortfallOf (text s) marks in signed (r .number) (r .line) (r .shortfall)
 answer (boundsFor s lows highs) = let r = boundsOf (text s) lows highs in isYes (r .number) (r .line) (r .yes)
@@ -212,6 +216,23 @@ otherDays =
 pub other-days-as-stated : AsStated otherDays
 unfolding listings tankLines lookUp
 other-days-as-stated = refl
+
+-- The placing's words (request 106) ------------------------------------------------------
+
+-- The first sheet feeds ration 1 in the slots 1 and 2, the rations 2 and 3 in slot 3, and ration 2 in slot 4. Two meals
+-- of one tank have a bit each. A day without rations and one that is held have no bit.
+abbrev pub placingDays : List Day
+placingDays =
+    day (placingFor listed) (numbers (1 ∷ 1 ∷ 6 ∷ 2 ∷ replicate 92 0))
+    ∷ day (placingFor deadlines) (numbers (5 ∷ 6 ∷ 4 ∷ replicate 93 0))
+    ∷ day (placingFor meals) (numbers (0 ∷ 1 ∷ 2 ∷ 4 ∷ replicate 92 0))
+    ∷ day (placingFor idleLong) (numbers (replicate 96 0))
+    ∷ day (placingFor held) (numbers (replicate 96 0))
+    ∷ []
+
+pub placing-days-as-stated : AsStated placingDays
+unfolding placings
+placing-days-as-stated = refl
 
 -- Causes (request 105) ------------------------------------------------------------------
 

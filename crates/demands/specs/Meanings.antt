@@ -11,9 +11,10 @@ use Rattle.energy.specs.Energy.{atEnd, state, listed, listedFor, onIn, onSlots,
 use Rattle.bill.specs.Bill.{rates, hourOf, rateOf, onRate, onCharge, startCharge, chargeFrom, blowerCharge, charge, centsOf, amountOf}
 use Rattle.plan_lines.specs.Lines.{stretchLine, blowerLines, stretchLines, partAt, fedIn, feedLine, slotLines, feedLines, billLine, planLines, membersFrom, memberLines, heldLines}
 use Rattle.plan_lines.specs.Text.{writeLines, planText, heldText, refusalText}
+use Rattle.plan_lines.specs.PlacingForms.{binary, wordOf, wordsOf}
 use Rattle.planning.specs.Planning.{planRefusal, writes}
 use Rattle.schedules.specs.Rest.{restDemands, restHigh, together, noFeedings}
-use Rattle.planning.specs.Problem.{left, room, canBePlanned, settledCounts, feedingsOf, countsOf, shownSet, planWith, listingOf}
+use Rattle.planning.specs.Problem.{left, room, canBePlanned, settledCounts, feedingsOf, countsOf, shownSet, planWith, listingOf, wordsFor}
 use Rattle.planning.specs.ReadListing.{lineIn, linesIn, linesOf, headLine, stretchPart, feedPart, billOn}
 use Rattle.schedules.specs.Causes.{excessSet, someAbove, crossed, lowest, obstacle}
 use Rattle.method.specs.Keeping.{stretches}
@@ -31,6 +32,11 @@ plans = tt
 unfoldable pub listings : Unit {0}
 unfolding answers plans leading columns writeField writeLine padded stretchLine blowerLines stretchLines partAt fedIn feedLine slotLines feedLines billLine planLines membersFrom memberLines heldLines writeLines planText heldText refusalText restDemands restHigh together noFeedings left room canBePlanned settledCounts feedingsOf countsOf planWith shownSet listingOf planRefusal writes output lineIn linesIn linesOf headLine stretchPart feedPart billOn
 listings = tt
+
+-- and to the placing's words
+unfoldable pub placings : Unit {0}
+unfolding listings binary wordOf wordsOf wordsFor
+placings = tt
 
 -- and to the causes' listing
 unfoldable pub causes : Unit {0}
