@@ -181,8 +181,12 @@ kiwimound_planned kiwimound_plan(const uint8_t *sheet, size_t sheet_length, uint
 
 /* Plans a sheet into `placing`. Refusals 1 to 9 and 13, then 10 for a buffer under KIWIMOUND_PLACING_WORDS, then 12.
  * Number 0 writes 96 words at its front: word t - 1 is that of slot t, and its bit i - 1, the lowest being bit 0, is 1
- * if ration i is fed in slot t; every other bit is 0. 12 writes 96 zeros. Words after these keep their values; `length`
- * is 0. So `placing[t - 1] >> (i - 1) & 1` says whether ration i is fed in slot t. */
+ * if ration i is fed in slot t; every other bit is 0, and so are the words past the day. 12 writes 96 zeros. Words after
+ * these keep their values; `length` is 0.
+ *
+ * So `placing[t - 1] >> (i - 1) & 1` says whether ration i is fed in slot t. Ration i is the one on the sheet's ration
+ * line i, with the tank `numbers[4 * (i - 1)]` of kiwimound_read: a tank's meals have a bit each, and no slot has two of
+ * them. `placing_words` counts words: KIWIMOUND_PLACING_WORDS, and not the size of the buffer in bytes. */
 kiwimound_planned kiwimound_plan_placing(const uint8_t *sheet, size_t sheet_length, uint64_t *placing,
                                          size_t placing_words);
 

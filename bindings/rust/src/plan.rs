@@ -144,8 +144,8 @@ impl Plan {
         })
     }
 
-    /// The tanks fed in a slot, counted from 1, rising: those of [`Plan::rations_in`]. None comes twice, since a tank's
-    /// meals don't overlap.
+    /// The tanks fed in a slot, rising: those of [`Plan::rations_in`]. Slots are counted from 1. None comes twice, since
+    /// the windows of a tank's meals have no slot in common.
     ///
     /// ```
     /// use kiwimound::Sheet;

@@ -4,11 +4,11 @@ use mathlib.Core.List.{List, _++_}
 use Prim.Native.Nat.{ℕ, _+_, _-_}
 use lib.ListN.{length, take, drop, replicate}
 
--- new bytes at the front of a lent buffer; the bytes after them keep their values
+-- new elements at the front of a lent buffer, bytes or words; those after them keep their values
 unfoldable pub over : List ℕ → List ℕ → List ℕ
 over new old = new ++ drop (length new) old
 
--- a buffer with new bytes from a place on; its other bytes keep their values
+-- a buffer with new elements from a place on; its others keep their values
 unfoldable pub putAt : ℕ → List ℕ → List ℕ → List ℕ
 putAt at new old = take at old ++ (new ++ drop (at + length new) old)
 

@@ -33,11 +33,10 @@ use Rattle.questions.specs.Calls.{sheetShortfall, boundsFault, cutHighs, sheetF
 use Rattle.questions.specs.BoundsSteps.{length-cutHighs}
 use Rattle.plan_lines.specs.Sizes.{planBytes, placingWords}
 use Rattle.plan_lines.specs.PlacingForms.{wordsOf, gridBytes, gridOf, SameFeedings}
-use Rattle.plan_lines.specs.PlacingFormLaws.{length-wordsOf, same-feedings}
+use Rattle.plan_lines.specs.PlacingFormLaws.{length-wordsOf, no-words, same-feedings}
 use Rattle.planning.specs.Problem.{Problem, alone, ProblemInRange, canBePlanned, feedingsOf, planListing, heldListing, listingOf, wordsFor}
 use Rattle.planning.specs.Planning.{heldFaults, planChecks, planRefusal, shortPlan, shortPlacing, writes, listedAnswer, listingAfter, placingAfter}
 use Rattle.planning.specs.PlacingLaws.{placing-rows, length-placing}
-use Rattle.planning.specs.InputLaws.{no-words}
 use Rattle.planning.specs.WrittenLaws.{writes-planned, writes-held}
 use Rattle.planning.specs.ProblemLaws.{feedings-sound, listing-plan, listing-held, words-plan, words-held, length-listing}
 use Rattle.planning.specs.AloneLaws.{left-alone, room-alone, may-alone, alone-in-range}

@@ -62,7 +62,7 @@ NoLineOf b tank = (i : ℕ) → 1 ≤ i → i < lineCount b → valueAt (lineAt 
 
 -- Lent buffers ------------------------------------------------------------------------------
 
--- A text at the front of a lent buffer: it fits, and the bytes after it keep their values.
+-- A text, or words, at the front of a lent buffer: it fits, and what comes after it keeps its values.
 pub record Front (text old new : List ℕ) : Type 0 where
   pub same-length : length new ≡ length old
   pub text-is : take (length text) new ≡ text
@@ -84,7 +84,7 @@ pub record PlacingBuffer (p : Problem) (number : ℕ) (old new : List ℕ) : Typ
   -- .. and are all 0 where nothing is planned
   pub held : number ≡ noPlacing → Front (replicate placingWords 0) old new
   -- the byte grid of the same feedings, 6,144 zeros where nothing is planned, marks the same: each byte is its bit, and
-  -- the grid can be made of the words as the words of the grid
+  -- each form can be made of the other
   pub as-grid : number ≡ 0 → SameFeedings (take placingWords new) (gridOf (feedingsOf p))
   pub held-as-grid : number ≡ noPlacing → SameFeedings (take placingWords new) (replicate gridBytes 0)
 

@@ -1,6 +1,6 @@
 -- Demand 1: no input breaks a call. Whatever bytes, lists and buffers are lent, the call returns and takes no undefined
 -- step; it gives the number and the line of its first fault, as section 12 of docs/specification.md lists them, and
--- each lent byte is then what section 13 says.
+-- each lent byte and word is then what section 13 says.
 --
 -- That a call comes to its end, and takes no undefined step on the way, is not a statement about its answer: it is what
 -- the prover shows of every function before it accepts a crate, and no call for outsiders asks anything of its caller.

@@ -2,8 +2,8 @@
 -- a planning call gives, the lines of the listing in its plan buffer and the words of its placing buffer. All is said
 -- of a problem (Problem.antt of `planning`): for a sheet planned alone what is left is what its rations ask, the room
 -- left is m in every slot, and any sound placing may be taken (`AloneIs`, a field of each demand). ReadListing.antt of
--- `planning` says how lines are read, Inputs.antt of `plan_lines` how words are. Nothing here says how a plan is found; that the calls meet it is demand
--- 3, DemandThree.antt. Definitions only. Assumes nothing.
+-- `planning` says how lines are read, Inputs.antt of `plan_lines` how words are. Nothing here says how a plan is found;
+-- that the calls meet it is demand 3, DemandThree.antt. Definitions only. Assumes nothing.
 use mathlib.Core.Path.{_≡_}
 use mathlib.Core.Logic.{_⊎_, _↔_}
 use mathlib.Core.Bool.{true}

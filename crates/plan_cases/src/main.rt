@@ -1,8 +1,9 @@
-// Answers a stream of cases on standard input by the planning calls of the crate `planning`, for comparison with the answers of a second implementation.
+// Answers a stream of cases on standard input by the planning calls of the crate `planning`, for comparison with the
+// answers of a second implementation.
 //
 // A payload has two parts, the first as long as the case's number says; the second is a sheet.
-// Operation P plans with a plan buffer, G with a placing buffer, B with both and N with none: the first part holds the buffers' lengths,
-// one a line, that of a placing buffer in words.
+// Operation P plans with a plan buffer, G with a placing buffer, B with both and N with none: the first part holds the
+// buffers' lengths, one a line, that of a placing buffer in words.
 // Operation C compares the sheet that is the first part with the second.
 mod answers;
 mod both_case;

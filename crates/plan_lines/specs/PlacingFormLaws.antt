@@ -8,7 +8,7 @@ use native.Mathlib.Decide.{decLt}
 use native.Mathlib.Nat.{mul-le-mul-right, pow-succ'}
 use native.Mathlib.Omega.{arith}
 use lib.Dec.{eqb}
-use lib.ListN.{length, getD, length-append, length-map, List·getD-append}
+use lib.ListN.{length, getD, replicate, length-append, length-map, length-replicate, List·getD-append, List·getD-eq-default}
 use lib.Seq.{ext-getD}
 use Rattle.common.specs.Lists.{range, flatMap}
 use Rattle.common.specs.ListLaws.{length-map-range, getD-map-range}
@@ -16,7 +16,7 @@ use Rattle.common.specs.Bits.{bit, bit-zero, bit-suc, bit-of-zero, same-bits}
 use Rattle.common.specs.Buffers.{padded}
 use Rattle.common.specs.BufferLaws.{length-padded}
 use Rattle.common.specs.ChunkLaws.{getD-append-past}
-use Rattle.common.specs.FillLaws.{getD-padded, padded-past}
+use Rattle.common.specs.FillLaws.{getD-padded, padded-past, getD-zeros}
 use Rattle.checks.specs.Limits.{maxSlots, maxRations}
 use Rattle.schedules.specs.Slots.{Slots, has}
 use Rattle.schedules.specs.Schedules.{Schedule}
@@ -27,6 +27,11 @@ use Rattle.plan_lines.specs.PlacingForms.{binary, wordOf, wordsOf, gridB
 -- a feeding's mark
 abbrev mark : Bool → ℕ
 mark b = cond b 1 0
+
+-- a mark is 1 exactly where its feeding is
+pub one-marked : (b : Bool) → eqb (mark b) 1 ≡ b
+one-marked true = refl
+one-marked false = refl
 
 -- Words --------------------------------------------------------------------------------
 
@@ -82,22 +87,16 @@ words-are p words e h =
     let k : t < placingWords = omega (arith, e) in
     same-bits _ _ (λ j. h t j k ∙ sym (bit-wordOf p t j)) ∙ sym (getD-wordsOf p t k))
 
+-- those of no rations are 0
+pub no-words : replicate placingWords 0 ≡ wordsOf []
+no-words =
+    words-are [] (replicate placingWords 0) (length-replicate {A = ℕ} placingWords 0)
+    (λ t j l. ap (λ w. bit w j) (getD-zeros placingWords t) ∙ bit-of-zero j)
+
 -- Bytes --------------------------------------------------------------------------------
 
--- no slot past the end of a row is in it
-pub has-past : (c : Slots) (t : ℕ) → length c ≤ t → has c t ≡ false
-has-past [] t l = refl
-has-past (b ∷ c) zero l = absurd (omega arith)
-has-past (b ∷ c) (suc t) l = has-past c t (omega arith)
-
--- and no ration past the last
-pub row-past : (p : Schedule) (j : ℕ) → length p ≤ j → getD p j [] ≡ []
-row-past [] j l = refl
-row-past (c ∷ p) zero l = absurd (omega arith)
-row-past (c ∷ p) (suc j) l = row-past p j (omega arith)
-
 -- each row has at most 96 slots
-abbrev pub ShortRows : Schedule → Type 0
+abbrev ShortRows : Schedule → Type 0
 ShortRows p = (j : ℕ) → j < length p → length (getD p j []) ≤ maxSlots
 
 length-rowBytes : (c : Slots) → length c ≤ maxSlots → length (rowBytes c) ≡ maxSlots
@@ -110,7 +109,7 @@ row-byte c t rest l k = List·getD-append (rowBytes c) rest 0 t (omega (arith, l
   where
     at : Dec (t < length c) → getD (rowBytes c) t 0 ≡ mark (has c t)
     at (yes m) = getD-padded maxSlots (map mark c) t (omega (arith, length-map c mark)) ∙ getD-map-below mark c t 0 false m
-    at (no m) = padded-past maxSlots (map mark c) t (omega (arith, length-map c mark)) ∙ sym (ap mark (has-past c t (omega arith)))
+    at (no m) = padded-past maxSlots (map mark c) t (omega (arith, length-map c mark)) ∙ sym (ap mark (List·getD-eq-default c false (omega arith)))
 
 rows-byte : (p : Schedule) → ShortRows p → (rest : List ℕ) (i t : ℕ) → i < length p → t < maxSlots
     → getD (flatMap rowBytes p ++ rest) (i * maxSlots + t) 0 ≡ mark (has (getD p i []) t)
@@ -156,7 +155,7 @@ module _ (p : Schedule) (short : ShortRows p) (few : length p ≤ maxRations) wh
       at (no m) =
           let past : length p ≤ i = omega arith in
           padded-past gridBytes (flatMap rowBytes p) (i * maxSlots + t) (omega (arith, length-rows p short, mul-le-mul-right maxSlots past))
-          ∙ sym (ap (λ c. mark (has c t)) (row-past p i past))
+          ∙ sym (ap (λ c. mark (has c t)) (List·getD-eq-default p [] past))
 
   byte-is-bit : (i t : ℕ) → t < maxSlots → getD (gridOf p) (i * maxSlots + t) 0 ≡ bit (getD (wordsOf p) t 0) i
   byte-is-bit i t k = grid-byte i t k ∙ sym (ap (λ w. bit w i) (getD-wordsOf p t k) ∙ bit-wordOf p t i)
@@ -188,15 +187,11 @@ module _ (p : Schedule) (short : ShortRows p) (few : length p ≤ maxRations) wh
       word : ℕ → ℕ
       word t = binary (map (fed t) (range 0 maxRations))
 
-      one : (b : Bool) → eqb (mark b) 1 ≡ b
-      one true = refl
-      one false = refl
-
       at : (t j : ℕ) → t < placingWords → Dec (j < maxRations) → has (map (fed t) (range 0 maxRations)) j ≡ has (getD p j []) t
-      at t j l (yes m) = getD-map-range (fed t) false maxRations j m ∙ ap (λ x. eqb x 1) (grid-byte j t l) ∙ one (has (getD p j []) t)
+      at t j l (yes m) = getD-map-range (fed t) false maxRations j m ∙ ap (λ x. eqb x 1) (grid-byte j t l) ∙ one-marked (has (getD p j []) t)
       at t j l (no m) =
-          has-past (map (fed t) (range 0 maxRations)) j (omega (arith, length-map-range (fed t) maxRations))
-          ∙ sym (ap (λ c. has c t) (row-past p j (omega (arith, few))))
+          List·getD-eq-default (map (fed t) (range 0 maxRations)) false {n = j} (omega (arith, length-map-range (fed t) maxRations))
+          ∙ sym (ap (λ c. has c t) (List·getD-eq-default p [] {n = j} (omega (arith, few))))
 
   -- the words of a placing and its byte grid mark the same feedings
   pub same-feedings : SameFeedings (wordsOf p) (gridOf p)

@@ -48,7 +48,7 @@ rowBytes c = padded maxSlots (bytesOf c)
 unfoldable pub gridOf : Schedule → List ℕ
 gridOf p = padded gridBytes (flatMap rowBytes p)
 
--- Each of the other --------------------------------------------------------------------
+-- Each made of the other --------------------------------------------------------------------
 
 -- byte i × 96 + t is bit i of word t
 unfoldable pub gridFrom : (words : List ℕ) → List ℕ

@@ -13,7 +13,7 @@ wordBytes = 5
 abbrev pub planBytes : ℕ
 planBytes = wordBytes + lineBytes * (2 + 2 * (maxSlots * maxBlowers))
 
--- the least length of a placing buffer, 96 words: one for each slot
+-- the least length of a placing buffer, 96 words of 64 bits: one for each slot
 abbrev pub placingWords : ℕ
 placingWords = maxSlots
 

@@ -9,7 +9,7 @@ pub const WORD: usize = 5;
 // slot of each blower, and the bill's line
 pub const PLAN_BYTES: usize = WORD + LINE * (2 + 2 * (96 * 8));
 
-// the least length of a placing buffer, 96 words: one for each slot
+// the least length of a placing buffer, 96 words of 64 bits: one for each slot
 pub const PLACING_WORDS: usize = 96;
 
 // the least length of a causes' buffer, and the most that their listing takes

@@ -35,6 +35,7 @@ use Rattle.stretches.specs.declared.Day.{Day}
 use Rattle.stretches.specs.Days.{DayPlanned}
 use Rattle.plan_lines.specs.Sizes.{planBytes, placingWords}
 use Rattle.plan_lines.specs.Text.{planText, heldText}
+use Rattle.plan_lines.specs.PlacingFormLaws.{no-words}
 use Rattle.plan_lines.specs.Inputs.{setOf}
 use Rattle.listing.specs.Opening.{Written}
 use Rattle.listing.specs.PlanSteps.{CanPutPlan}
@@ -42,7 +43,7 @@ use Rattle.listing.specs.PlanSteps as Put
 use Rattle.listing.specs.HeldSteps.{CanPutHeld}
 use Rattle.planning.specs.Problem.{Problem, alone, left, room, ProblemInRange, canBePlanned, settledCounts, feedingsOf, countsOf, shownSet, planWith, listingOf, wordsFor}
 use Rattle.planning.specs.Contracts.{DayOf}
-use Rattle.planning.specs.InputLaws.{Holds, planText-holds, setOf-tab, words-of, no-words}
+use Rattle.planning.specs.InputLaws.{Holds, planText-holds, setOf-tab, words-of}
 use Rattle.planning.specs.PlacingLaws.{placing-rows, counts-le, length-placing}
 use Rattle.planning.specs.AloneLaws.{left-alone, room-alone, alone-in-range}
 use Rattle.planning.specs.ProblemLaws.{listing-plan, listing-held, words-plan, words-held, length-wordsFor, length-left, feedings-sound, feedings-whole, counts-whole, length-countsOf}

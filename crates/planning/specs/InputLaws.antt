@@ -6,28 +6,26 @@ use Prim.Native.Nat.{ℕ, zero, suc, _+_, _-_, _*_, _^_, _≤_, _<_}
 use native.Mathlib.Omega.{arith}
 use lib.Dec.{eqb, ltb}
 use native.Mathlib.Decide.{decLt}
-use lib.ListN.{length, getD, take, drop, length-append, length-map, length-take, length-replicate, replicate, List·getD-append}
+use lib.ListN.{length, getD, take, drop, length-append, length-map, length-take, replicate, List·getD-append, List·getD-eq-default}
 use lib.Pow.{pow-mono}
 use lib.Seq.{getD-take, ext-getD}
 use Rattle.common.specs.Lists.{range, flatMap, zipWith}
 use Rattle.common.specs.ListLaws.{length-map-range, getD-map-range}
 use Rattle.common.specs.Bits.{bit, bit-of-zero, bit-below}
-use Rattle.common.specs.FillLaws.{getD-zeros}
 use Rattle.line.specs.Layout.{fields}
 use Rattle.checks.specs.Limits.{maxSlots, maxRations}
 use Rattle.checks.specs.Sheet.{Job, numbersOf}
 use Rattle.common.specs.Buffers.{padded, over}
 use Rattle.theory.specs.SumsOver.{one}
-use Rattle.schedules.specs.Slots.{Slots, has}
+use Rattle.schedules.specs.Slots.{has}
 use Rattle.schedules.specs.Schedules.{Schedule}
 use Rattle.schedules.specs.Tabulate.{tab, tab-unique, getD-map-below}
 use Rattle.schedules.specs.AsFunctions.{Rows}
 use Rattle.feedings.specs.CellChoice.{ScheduleWords}
 use Rattle.plan_lines.specs.Lines.{Line, partAt, slotLines, feedLines, planLines}
 use Rattle.plan_lines.specs.Text.{planText}
-use Rattle.plan_lines.specs.Sizes.{placingWords}
 use Rattle.plan_lines.specs.PlacingForms.{wordOf, wordsOf}
-use Rattle.plan_lines.specs.PlacingFormLaws.{bit-wordOf, wordOf-few, length-wordsOf, getD-wordsOf, words-are, has-past, row-past}
+use Rattle.plan_lines.specs.PlacingFormLaws.{bit-wordOf, wordOf-few, length-wordsOf, getD-wordsOf, words-are, one-marked}
 use Rattle.plan_lines.specs.Inputs.{tankAt, tanksOf, rowOf, placingOf, setOf}
 use Rattle.plan_lines.specs.SetBits.{setBits-past}
 use Rattle.plan_lines.specs.FeedLaws.{wordLines, slotLines-word, has-rowOf}
@@ -52,7 +50,7 @@ pub record Holds (slots n : ℕ) (words : List ℕ) (p : Schedule) : Type 0 wher
   pub fed : (j t : ℕ) → j < n → t < slots → has (getD p j []) t ≡ eqb (bit (getD words t 0) j) 1
   pub few : (t : ℕ) → t < slots → getD words t 0 < 2 ^ n
 
-pub placingOf-holds : (slots n : ℕ) (words : List ℕ) (p : Schedule) → slots ≤ length words → Holds slots n words p → placingOf slots n words ≡ p
+placingOf-holds : (slots n : ℕ) (words : List ℕ) (p : Schedule) → slots ≤ length words → Holds slots n words p → placingOf slots n words ≡ p
 unfolding placingOf
 placingOf-holds slots n words p there h = ext-getD [] (map (rowOf slots words) (range 0 n)) p (length-map-range (rowOf slots words) n ∙ sym (h .rations)) (λ j l. row j (rw (length-map-range (rowOf slots words) n) at l))
   where
@@ -80,18 +78,13 @@ words-of {n} {d} {p} {W} h e rows = words-are p W (h .long) (λ t j l. at t j (d
     at t j (yes l) (no m) =
         let k : n ≤ j = omega arith in
         none t j (bit-below (getD W t 0) j (omega (arith, h .rows t l .few, pow-mono {i = n} {j = j} k)))
-        (ap (λ c. has c t) (row-past p j (omega (arith, e))))
+        (ap (λ c. has c t) (List·getD-eq-default p [] {n = j} (omega (arith, e))))
     at t j (no l) (yes m) =
         none t j (ap (λ w. bit w j) (h .past t (omega arith)) ∙ bit-of-zero j)
-        (has-past (getD p j []) t (omega (arith, rows j (omega (arith, e)))))
+        (List·getD-eq-default (getD p j []) false {n = t} (omega (arith, rows j (omega (arith, e)))))
     at t j (no l) (no m) =
         none t j (ap (λ w. bit w j) (h .past t (omega arith)) ∙ bit-of-zero j)
-        (ap (λ c. has c t) (row-past p j (omega (arith, e))))
-
-pub no-words : replicate placingWords 0 ≡ wordsOf []
-no-words =
-    words-are [] (replicate placingWords 0) (length-replicate {A = ℕ} placingWords 0)
-    (λ t j l. ap (λ w. bit w j) (getD-zeros placingWords t) ∙ bit-of-zero j)
+        (ap (λ c. has c t) (List·getD-eq-default p [] {n = j} (omega (arith, e))))
 
 -- a placing is read back from its words, whatever lies after them
 pub placingOf-words : (slots : ℕ) → slots ≤ maxSlots → (p : Schedule) → Rows slots p → (old : List ℕ)
@@ -99,17 +92,13 @@ pub placingOf-words : (slots : ℕ) → slots ≤ maxSlots → (p : Schedule) �
 unfolding over
 placingOf-words slots short p rows old =
     placingOf-holds slots (length p) (over (wordsOf p) old) p (omega (arith, length-append (wordsOf p) rest, length-wordsOf p))
-    (record { rations = refl; rows = rows; fed = λ j t l k. sym (ap (λ w. eqb (bit w j) 1) (word t k) ∙ ap (λ b. eqb b 1) (bit-wordOf p t j) ∙ marked (has (getD p j []) t)); few = λ t k. rw (word t k) (wordOf-few p t) })
+    (record { rations = refl; rows = rows; fed = λ j t l k. sym (ap (λ w. eqb (bit w j) 1) (word t k) ∙ ap (λ b. eqb b 1) (bit-wordOf p t j) ∙ one-marked (has (getD p j []) t)); few = λ t k. rw (word t k) (wordOf-few p t) })
   where
     rest : List ℕ
     rest = drop (length (wordsOf p)) old
 
     word : (t : ℕ) → t < slots → getD (wordsOf p ++ rest) t 0 ≡ wordOf p t
     word t k = List·getD-append (wordsOf p) rest 0 t (omega (arith, length-wordsOf p)) ∙ getD-wordsOf p t (omega arith)
-
-    marked : (b : Bool) → eqb (cond b 1 0) 1 ≡ b
-    marked true = refl
-    marked false = refl
 
 -- Tanks ------------------------------------------------------------------------------
 

@@ -51,16 +51,6 @@ module _ {A : Type 0} where
           ap₂ (λ (x y : List A). x ++ y) (ap f s) (flatMap-range-none f (suc a) n (λ j l r. h j (λ i. omega arith))) ∙ append-nil (f k)
       go false e ih = let s : a ≡ k → ⊥ = eqb-false a k e in ap₂ (λ (x y : List A). x ++ y) (h a s) (ih (omega arith) (omega arith))
 
--- a list from its elements by place
-module _ {A : Type 0} (z : A) where
-  getD-suc : (x : A) (xs : List A) (a n : ℕ) → map (λ i. getD (x ∷ xs) i z) (range (suc a) n) ≡ map (λ i. getD xs i z) (range a n)
-  getD-suc x xs a zero = refl
-  getD-suc x xs a (suc n) = ap (λ l. getD xs a z ∷ l) (getD-suc x xs (suc a) n)
-
-  pub map-getD : (xs : List A) → map (λ i. getD xs i z) (range 0 (length xs)) ≡ xs
-  map-getD [] = refl
-  map-getD (x ∷ xs) = ap (λ l. x ∷ l) (getD-suc x xs 0 (length xs) ∙ map-getD xs)
-
 -- Kept elements -----------------------------------------------------------------
 
 module _ {A : Type 0} (f : A → Bool) where

@@ -40,7 +40,7 @@ shortPlan listing = ltb (length listing) planBytes
 unfoldable pub shortPlacing : List ℕ → Bool
 shortPlacing placing = ltb (length placing) placingWords
 
--- every number but 0 and 12 changes no lent byte and gives length 0
+-- every number but 0 and 12 changes nothing that is lent and gives length 0
 unfoldable pub writes : ℕ → Bool
 writes number = eqb number 0 || eqb number noPlacing
 

@@ -22,7 +22,7 @@ ghost use Rattle.planning.specs.Problem.{alone, listingOf, wordsFor};
 ghost use Rattle.planning.specs.Planning.{planRefusal, shortPlan, shortPlacing, listedAnswer, unlistedAnswer, listingAfter, placingAfter};
 ghost use Rattle.planning.specs.Contracts.{ReadSheet, DayFound, SomeDay, DayListed, NumberOf, ReadListed, ReadPlaced, ReadBoth, ReadNumbered};
 
-// A refusal's answer: nothing was written.
+// An answer of length 0: no listing was written.
 fn refuse(number: u32, line: u32) -> Planned
     ensures { λ r. ⌜ r ≡ record { number = number; line = line; length = 0 } ⌝ }
 {
@@ -169,9 +169,9 @@ pub fn plan(b: &[u8], listing: &mut [u8]) -> Planned
     plan_of(sheet::read(b), listing)
 }
 
-// Plans a sheet, with a placing buffer lent: the number and the line as `plan` gives them, and length 0; the word of each
-// of 96 slots at the front of `placing`, all 0 where the sheet is held for want of blowers, and nothing written on any
-// other refusal.
+// Plans a sheet, with a placing buffer lent: the number and the line as `plan` gives them, and length 0; the word of
+// each of 96 slots at the front of `placing`, all 0 where the sheet is held for want of blowers, and nothing written on
+// any other refusal.
 pub fn plan_placing(b: &[u8], placing: &mut [u64]) -> Planned
     ensures { λ r. ⌜ r ≡ unlistedAnswer (planRefusal (now (b .entry)) (shortPlacing (now (placing .entry)))) ⌝ }
     ensures { λ _. ⌜ now (placing .exit) ≡ placingAfter (planRefusal (now (b .entry)) (shortPlacing (now (placing .entry)))) (wordsFor (alone (sheetOf (now (b .entry))))) (now (placing .entry)) ⌝ }
