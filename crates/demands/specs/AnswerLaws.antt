@@ -17,7 +17,7 @@ use Rattle.line.specs.Layout.{lineBytes}
 use Rattle.checks.specs.Sheet.{Sheet, sheetOf, writeSheet, sheetFrom}
 use Rattle.checks.specs.Checks.{fault, firstRefusal, faults}
 use Rattle.sheet.specs.Calls.{accepted, refused, readingFrom, readingOf, writeRefusal, writtenOf, bufferAfter}
-use Rattle.common.specs.Buffers.{padded, over}
+use Rattle.common.specs.Buffers.{over}
 use Rattle.common.specs.BufferLaws.{length-over}
 use Rattle.sheet.specs.CallLaws.{writtenOf-refused, bufferAfter-refused}
 use Rattle.checks.specs.FaultLaws.{false-fault, append-nil-parts, Numbered, numbered-append, numbered-fault, numbered-faults}
@@ -33,14 +33,14 @@ use Rattle.questions.specs.Calls.{sheetShortfall, boundsFault, cutHighs, sheetF
 use Rattle.questions.specs.BoundsSteps.{length-cutHighs}
 use Rattle.plan_lines.specs.Sizes.{planBytes, placingWords}
 use Rattle.plan_lines.specs.PlacingForms.{wordsOf, gridBytes, gridOf, SameFeedings}
-use Rattle.plan_lines.specs.PlacingFormLaws.{length-wordsOf, no-words, same-feedings}
+use Rattle.plan_lines.specs.PlacingFormLaws.{length-wordsOf, no-words, same-feedings, no-feedings}
 use Rattle.planning.specs.Problem.{Problem, alone, ProblemInRange, canBePlanned, feedingsOf, planListing, heldListing, listingOf, wordsFor}
 use Rattle.planning.specs.Planning.{heldFaults, planChecks, planRefusal, shortPlan, shortPlacing, writes, listedAnswer, listingAfter, placingAfter}
 use Rattle.planning.specs.PlacingLaws.{placing-rows, length-placing}
 use Rattle.planning.specs.WrittenLaws.{writes-planned, writes-held}
 use Rattle.planning.specs.ProblemLaws.{feedings-sound, listing-plan, listing-held, words-plan, words-held, length-listing}
 use Rattle.planning.specs.AloneLaws.{left-alone, room-alone, may-alone, alone-in-range}
-use Rattle.planning.specs.CallAnswers.{long-placing, writes-nothing, listed-nothing, placed-nothing}
+use Rattle.planning.specs.CallAnswers.{long-plan, long-placing, writes-nothing, listed-nothing, placed-nothing}
 use Rattle.program.specs.Program.{output}
 use Rattle.records.specs.Records.{recordFaults}
 use Rattle.demands.specs.Outcome.{AloneIs}
@@ -97,10 +97,6 @@ front-over text old l =
       text-is = take-append-seam text (drop (length text) old);
       kept = drop-append-seam text (drop (length text) old);
     }
-
-pub long-plan : (listing : List ℕ) → shortPlan listing ≡ false → planBytes ≤ length listing
-unfolding shortPlan
-long-plan listing e = ltb-false (length listing) planBytes e
 
 -- Calls that plan ------------------------------------------------------------------------------
 
@@ -160,10 +156,6 @@ module _ {own : List Refusal} {s : Sheet} (checks : OwnChecks own s) (p : Proble
     held-words e =
         marked (replicate placingWords 0) (writes-held (r .number) e) (words-held p (number-twelve e .2) ∙ sym no-words) (length-replicate {A = ℕ} placingWords 0)
 
-    no-grid : SameFeedings (replicate placingWords 0) (replicate gridBytes 0)
-    unfolding gridOf padded
-    no-grid = subst (λ words. SameFeedings words (replicate gridBytes 0)) (sym no-words) (same-feedings [] (λ j l. absurd (omega arith)) (omega arith))
-
     pub placing-buffer : (short ≡ false → placingWords ≤ length old) → PlacingBuffer p (r .number) old (placingAfter r (wordsFor p) old)
     placing-buffer room =
         record {
@@ -177,7 +169,7 @@ module _ {own : List Refusal} {s : Sheet} (checks : OwnChecks own s) (p : Proble
               subst (λ words. SameFeedings words (gridOf (feedingsOf p))) (sym (planned-words e (room (z .1)) .1))
               (same-feedings (feedingsOf p) (λ j l. omega (arith, placing-rows (p .sheet) (feedingsOf p) can j l, g .values .head .slots .le))
               (omega (arith, length-placing (p .sheet) (feedingsOf p) can, g .values .head .rations)));
-          held-as-grid = λ e. subst (λ words. SameFeedings words (replicate gridBytes 0)) (sym (held-words e (room (number-twelve e .1)) .1)) no-grid;
+          held-as-grid = λ e. subst (λ words. SameFeedings words (replicate gridBytes 0)) (sym (held-words e (room (number-twelve e .1)) .1)) no-feedings;
         }
 
 -- whatever the checks of its sheet alone are, the answer is the first check that applies

@@ -1,4 +1,5 @@
--- What the arrays given to the calls stand for: tanks in flat numbers, the placing in words, a set of slots in marks. Assumes nothing.
+-- What arrays stand for: tanks in flat numbers, the placing in words, a set of slots in marks. Definitions only. Assumes
+-- nothing.
 use mathlib.Core.List.{List, map}
 use Prim.Native.Nat.{ℕ, _*_}
 use lib.Dec.{eqb, ltb}

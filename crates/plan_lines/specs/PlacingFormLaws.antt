@@ -1,7 +1,7 @@
--- The bits of a slot's word and the bytes of the grid, by place; and the words and the grid of a placing mark the same
+-- The bits of a slot's word and the bytes of the grid, by place; and the words and the grid of a placing one the same
 -- feedings. Assumes nothing.
-use mathlib.Core.Path.{_≡_, refl, sym, ap, _∙_}
-use mathlib.Core.Bool.{Bool, true, false, cond}
+use mathlib.Core.Path.{_≡_, refl, sym, ap, _∙_, subst}
+use mathlib.Core.Bool.{Bool, true, false}
 use mathlib.Core.List.{List, [], _∷_, _++_, map, append-assoc}
 use Prim.Native.Nat.{ℕ, zero, suc, _+_, _*_, _/_, _%_, _^_, _≤_, _<_}
 use native.Mathlib.Decide.{decLt}
@@ -22,33 +22,36 @@ use Rattle.schedules.specs.Slots.{Slots, has}
 use Rattle.schedules.specs.Schedules.{Schedule}
 use Rattle.schedules.specs.Tabulate.{getD-map-below}
 use Rattle.plan_lines.specs.Sizes.{placingWords}
+use Rattle.plan_lines.specs.FeedLaws.{one}
 use Rattle.plan_lines.specs.PlacingForms.{binary, wordOf, wordsOf, gridBytes, bytesOf, rowBytes, gridOf, gridFrom, wordsFrom, SameFeedings}
 
--- a feeding's mark
-abbrev mark : Bool → ℕ
-mark b = cond b 1 0
-
--- a mark is 1 exactly where its feeding is
-pub one-marked : (b : Bool) → eqb (mark b) 1 ≡ b
-one-marked true = refl
-one-marked false = refl
+pub one-is : (b : Bool) → eqb (one b) 1 ≡ b
+one-is true = refl
+one-is false = refl
 
 -- Words --------------------------------------------------------------------------------
 
-lowest : (b : Bool) (w : ℕ) → (cond b 1 0 + 2 * w) % 2 ≡ mark b
-lowest true w = omega arith
-lowest false w = omega arith
+lowest : (b : Bool) (bs : List Bool) → binary (b ∷ bs) % 2 ≡ one b
+unfolding binary
+lowest true bs = omega arith
+lowest false bs = omega arith
 
-others : (b : Bool) (w : ℕ) → (cond b 1 0 + 2 * w) / 2 ≡ w
-others true w = omega arith
-others false w = omega arith
+others : (b : Bool) (bs : List Bool) → binary (b ∷ bs) / 2 ≡ binary bs
+unfolding binary
+others true bs = omega arith
+others false bs = omega arith
 
-bit-binary : (bs : List Bool) (j : ℕ) → bit (binary bs) j ≡ mark (has bs j)
+bit-binary : (bs : List Bool) (j : ℕ) → bit (binary bs) j ≡ one (has bs j)
 unfolding binary
 bit-binary [] j = bit-of-zero j
-bit-binary (b ∷ bs) zero = bit-zero (cond b 1 0 + 2 * binary bs) ∙ lowest b (binary bs)
-bit-binary (b ∷ bs) (suc j) =
-    bit-suc (cond b 1 0 + 2 * binary bs) j ∙ ap (λ w. bit w j) (others b (binary bs)) ∙ bit-binary bs j
+bit-binary (b ∷ bs) zero = bit-zero (binary (b ∷ bs)) ∙ lowest b bs
+bit-binary (b ∷ bs) (suc j) = bit-suc (binary (b ∷ bs)) j ∙ ap (λ w. bit w j) (others b bs) ∙ bit-binary bs j
+
+binary-few : (bs : List Bool) → binary bs < 2 ^ length bs
+unfolding binary
+binary-few [] = omega arith
+binary-few (true ∷ bs) = omega (arith, binary-few bs, pow-succ' 2 (length bs))
+binary-few (false ∷ bs) = omega (arith, binary-few bs, pow-succ' 2 (length bs))
 
 -- a slot's marks, ration by ration
 column : (p : Schedule) (t j : ℕ) → has (map (λ c. has c t) p) j ≡ has (getD p j []) t
@@ -56,19 +59,14 @@ column [] t j = refl
 column (c ∷ p) t zero = refl
 column (c ∷ p) t (suc j) = column p t j
 
-pub bit-wordOf : (p : Schedule) (t j : ℕ) → bit (wordOf p t) j ≡ mark (has (getD p j []) t)
+pub bit-wordOf : (p : Schedule) (t j : ℕ) → bit (wordOf p t) j ≡ one (has (getD p j []) t)
 unfolding wordOf
-bit-wordOf p t j = bit-binary (map (λ c. has c t) p) j ∙ ap mark (column p t j)
+bit-wordOf p t j = bit-binary (map (λ c. has c t) p) j ∙ ap one (column p t j)
 
 -- a word has no bit past its rations
 pub wordOf-few : (p : Schedule) (t : ℕ) → wordOf p t < 2 ^ length p
-unfolding wordOf binary
-wordOf-few [] t = omega arith
-wordOf-few (c ∷ p) t = few (has c t) (wordOf-few p t)
-  where
-    few : (b : Bool) → wordOf p t < 2 ^ length p → cond b 1 0 + 2 * wordOf p t < 2 ^ suc (length p)
-    few true l = omega (arith, pow-succ' 2 (length p))
-    few false l = omega (arith, pow-succ' 2 (length p))
+unfolding wordOf
+wordOf-few p t = subst (λ n. wordOf p t < 2 ^ n) (length-map p (λ c. has c t)) (binary-few (map (λ c. has c t) p))
 
 pub length-wordsOf : (p : Schedule) → length (wordsOf p) ≡ placingWords
 unfolding wordsOf
@@ -80,7 +78,7 @@ getD-wordsOf p t l = getD-map-range (wordOf p) 0 placingWords t l
 
 -- 96 words with these bits, and no others, are those of the placing
 pub words-are : (p : Schedule) (words : List ℕ) → length words ≡ placingWords
-    → ((t j : ℕ) → t < placingWords → bit (getD words t 0) j ≡ mark (has (getD p j []) t)) → words ≡ wordsOf p
+    → ((t j : ℕ) → t < placingWords → bit (getD words t 0) j ≡ one (has (getD p j []) t)) → words ≡ wordsOf p
 words-are p words e h =
     ext-getD 0 words (wordsOf p) (e ∙ sym (length-wordsOf p))
     (λ t l.
@@ -101,18 +99,18 @@ ShortRows p = (j : ℕ) → j < length p → length (getD p j []) ≤ maxSlots
 
 length-rowBytes : (c : Slots) → length c ≤ maxSlots → length (rowBytes c) ≡ maxSlots
 unfolding rowBytes bytesOf
-length-rowBytes c l = length-padded maxSlots (map mark c) (omega (arith, length-map c mark))
+length-rowBytes c l = length-padded maxSlots (map one c) (omega (arith, length-map c one))
 
-row-byte : (c : Slots) (t : ℕ) (rest : List ℕ) → length c ≤ maxSlots → t < maxSlots → getD (rowBytes c ++ rest) t 0 ≡ mark (has c t)
+row-byte : (c : Slots) (t : ℕ) (rest : List ℕ) → length c ≤ maxSlots → t < maxSlots → getD (rowBytes c ++ rest) t 0 ≡ one (has c t)
 unfolding rowBytes bytesOf
 row-byte c t rest l k = List·getD-append (rowBytes c) rest 0 t (omega (arith, length-rowBytes c l)) ∙ at (decLt t (length c))
   where
-    at : Dec (t < length c) → getD (rowBytes c) t 0 ≡ mark (has c t)
-    at (yes m) = getD-padded maxSlots (map mark c) t (omega (arith, length-map c mark)) ∙ getD-map-below mark c t 0 false m
-    at (no m) = padded-past maxSlots (map mark c) t (omega (arith, length-map c mark)) ∙ sym (ap mark (List·getD-eq-default c false (omega arith)))
+    at : Dec (t < length c) → getD (rowBytes c) t 0 ≡ one (has c t)
+    at (yes m) = getD-padded maxSlots (map one c) t (omega (arith, length-map c one)) ∙ getD-map-below one c t 0 false m
+    at (no m) = padded-past maxSlots (map one c) t (omega (arith, length-map c one)) ∙ sym (ap one (List·getD-eq-default c false (omega arith)))
 
 rows-byte : (p : Schedule) → ShortRows p → (rest : List ℕ) (i t : ℕ) → i < length p → t < maxSlots
-    → getD (flatMap rowBytes p ++ rest) (i * maxSlots + t) 0 ≡ mark (has (getD p i []) t)
+    → getD (flatMap rowBytes p ++ rest) (i * maxSlots + t) 0 ≡ one (has (getD p i []) t)
 rows-byte [] h rest i t l k = absurd (omega arith)
 rows-byte (c ∷ p) h rest zero t l k =
     ap (λ bs. getD bs (zero * maxSlots + t) 0) (append-assoc (rowBytes c) (flatMap rowBytes p) rest)
@@ -146,16 +144,16 @@ module _ (p : Schedule) (short : ShortRows p) (few : length p ≤ maxRations) wh
   unfolding gridOf
   length-gridOf = length-padded gridBytes (flatMap rowBytes p) rows-fit
 
-  grid-byte : (i t : ℕ) → t < maxSlots → getD (gridOf p) (i * maxSlots + t) 0 ≡ mark (has (getD p i []) t)
+  grid-byte : (i t : ℕ) → t < maxSlots → getD (gridOf p) (i * maxSlots + t) 0 ≡ one (has (getD p i []) t)
   unfolding gridOf padded
   grid-byte i t k = at (decLt i (length p))
     where
-      at : Dec (i < length p) → getD (padded gridBytes (flatMap rowBytes p)) (i * maxSlots + t) 0 ≡ mark (has (getD p i []) t)
+      at : Dec (i < length p) → getD (padded gridBytes (flatMap rowBytes p)) (i * maxSlots + t) 0 ≡ one (has (getD p i []) t)
       at (yes m) = rows-byte p short _ i t m k
       at (no m) =
           let past : length p ≤ i = omega arith in
           padded-past gridBytes (flatMap rowBytes p) (i * maxSlots + t) (omega (arith, length-rows p short, mul-le-mul-right maxSlots past))
-          ∙ sym (ap (λ c. mark (has c t)) (List·getD-eq-default p [] past))
+          ∙ sym (ap (λ c. one (has c t)) (List·getD-eq-default p [] past))
 
   byte-is-bit : (i t : ℕ) → t < maxSlots → getD (gridOf p) (i * maxSlots + t) 0 ≡ bit (getD (wordsOf p) t 0) i
   byte-is-bit i t k = grid-byte i t k ∙ sym (ap (λ w. bit w i) (getD-wordsOf p t k) ∙ bit-wordOf p t i)
@@ -179,7 +177,7 @@ module _ (p : Schedule) (short : ShortRows p) (few : length p ≤ maxRations) wh
   unfolding wordsFrom
   words-from =
       words-are p (wordsFrom (gridOf p)) (length-map-range word placingWords)
-      (λ t j l. ap (λ w. bit w j) (getD-map-range word 0 placingWords t l) ∙ bit-binary (map (fed t) (range 0 maxRations)) j ∙ ap mark (at t j l (decLt j maxRations)))
+      (λ t j l. ap (λ w. bit w j) (getD-map-range word 0 placingWords t l) ∙ bit-binary (map (fed t) (range 0 maxRations)) j ∙ ap one (at t j l (decLt j maxRations)))
     where
       fed : ℕ → ℕ → Bool
       fed t i = eqb (getD (gridOf p) (i * maxSlots + t) 0) 1
@@ -188,12 +186,12 @@ module _ (p : Schedule) (short : ShortRows p) (few : length p ≤ maxRations) wh
       word t = binary (map (fed t) (range 0 maxRations))
 
       at : (t j : ℕ) → t < placingWords → Dec (j < maxRations) → has (map (fed t) (range 0 maxRations)) j ≡ has (getD p j []) t
-      at t j l (yes m) = getD-map-range (fed t) false maxRations j m ∙ ap (λ x. eqb x 1) (grid-byte j t l) ∙ one-marked (has (getD p j []) t)
+      at t j l (yes m) = getD-map-range (fed t) false maxRations j m ∙ ap (λ x. eqb x 1) (grid-byte j t l) ∙ one-is (has (getD p j []) t)
       at t j l (no m) =
           List·getD-eq-default (map (fed t) (range 0 maxRations)) false {n = j} (omega (arith, length-map-range (fed t) maxRations))
           ∙ sym (ap (λ c. has c t) (List·getD-eq-default p [] {n = j} (omega (arith, few))))
 
-  -- the words of a placing and its byte grid mark the same feedings
+  -- the words of a placing and its byte grid one the same feedings
   pub same-feedings : SameFeedings (wordsOf p) (gridOf p)
   same-feedings =
       record {
@@ -203,3 +201,8 @@ module _ (p : Schedule) (short : ShortRows p) (few : length p ≤ maxRations) wh
         to-grid = grid-from;
         to-words = words-from;
       }
+
+-- as do 96 zeros and 6,144
+pub no-feedings : SameFeedings (replicate placingWords 0) (replicate gridBytes 0)
+unfolding gridOf padded
+no-feedings = subst (λ words. SameFeedings words (replicate gridBytes 0)) (sym no-words) (same-feedings [] (λ j l. absurd (omega arith)) (omega arith))

@@ -32,6 +32,10 @@ pub room-plan : (out : List ℕ) → planBytes ≤ length out → shortPlan out 
 unfolding shortPlan
 room-plan out l = le-ltb (length out) planBytes l
 
+pub long-plan : (out : List ℕ) → shortPlan out ≡ false → planBytes ≤ length out
+unfolding shortPlan
+long-plan out e = ltb-false (length out) planBytes e
+
 -- what the test of a placing buffer gives
 pub tested-placing : (out : List ℕ) {x : Bool} → x ≡ ltb (length out) placingWords → shortPlacing out ≡ x
 unfolding shortPlacing

@@ -1,14 +1,13 @@
 -- The day of a problem (`DayOf`): where it is that of a whole day, and what may be written for it. Assumes nothing.
 use mathlib.Core.Path.{_≡_, refl, sym, ap, _∙_, subst}
 use mathlib.Core.Bool.{Bool, true, false}
-use mathlib.Core.List.{List, [], map}
+use mathlib.Core.List.{List, map}
 use Prim.Native.Nat.{ℕ, _*_, _≤_, _<_}
 use native.Mathlib.Omega.{arith}
-use lib.Dec.{eqb}
 use lib.ListN.{length, getD, take, replicate}
 use lib.Pow.{pow-mono}
 use lib.Seq.{ext-getD, getD-take, length-take-le}
-use borrow.Author.Tests.{eq-eqb, ne-eqb, not-true, not-false}
+use borrow.Author.Tests.{not-true, not-false}
 use Rattle.sheet.specs.declared.Reading.{Reading}
 use Rattle.checks.specs.Limits.{maxSlots, maxRations}
 use Rattle.line.specs.Layout.{fields}
@@ -21,8 +20,6 @@ use Rattle.checks.specs.declared.Refusal.{Refusal}
 use Rattle.checks.specs.RangeLaws.{ValuesInRange}
 use Rattle.sheet.specs.OwnChecks.{ReadFrom}
 use Rattle.sheet.specs.OwnCheckLaws.{read-is, read-values}
-use Rattle.theory.specs.SumsOver.{one}
-use Rattle.schedules.specs.Slots.{has}
 use Rattle.schedules.specs.Schedules.{Demand}
 use Rattle.schedules.specs.Shortfall.{forced, capacity}
 use Rattle.schedules.specs.Demands.{noLow, fullHigh}
@@ -35,15 +32,16 @@ use Rattle.stretches.specs.declared.Day.{Day}
 use Rattle.stretches.specs.Days.{DayPlanned}
 use Rattle.plan_lines.specs.Sizes.{planBytes, placingWords}
 use Rattle.plan_lines.specs.Text.{planText, heldText}
-use Rattle.plan_lines.specs.PlacingFormLaws.{no-words}
+use Rattle.plan_lines.specs.PlacingForms.{wordsOf}
+use Rattle.plan_lines.specs.PlacingFormLaws.{getD-wordsOf, no-words}
 use Rattle.plan_lines.specs.Inputs.{setOf}
 use Rattle.listing.specs.Opening.{Written}
 use Rattle.listing.specs.PlanSteps.{CanPutPlan}
 use Rattle.listing.specs.PlanSteps as Put
 use Rattle.listing.specs.HeldSteps.{CanPutHeld}
-use Rattle.planning.specs.Problem.{Problem, alone, left, room, ProblemInRange, canBePlanned, settledCounts, feedingsOf, countsOf, shownSet, planWith, listingOf, wordsFor}
+use Rattle.planning.specs.Problem.{Problem, SoundPlacing, alone, left, room, ProblemInRange, canBePlanned, settledCounts, feedingsOf, countsOf, shownSet, planWith, listingOf, wordsFor}
 use Rattle.planning.specs.Contracts.{DayOf}
-use Rattle.planning.specs.InputLaws.{Holds, planText-holds, setOf-tab, words-of}
+use Rattle.planning.specs.InputLaws.{Holds, planText-holds, setOf-tab, words-of, words-hold}
 use Rattle.planning.specs.PlacingLaws.{placing-rows, counts-le, length-placing}
 use Rattle.planning.specs.AloneLaws.{left-alone, room-alone, alone-in-range}
 use Rattle.planning.specs.ProblemLaws.{listing-plan, listing-held, words-plan, words-held, length-wordsFor, length-left, feedings-sound, feedings-whole, counts-whole, length-countsOf}
@@ -98,18 +96,17 @@ module _ {p : Problem} {r : Reading} {d : Day} (h : DayOf p r d) where
     words : ScheduleWords (length (s .jobs)) (s .slots) (feedingsOf p) (d .fed)
     words = h .fed e
 
+    sound : SoundPlacing s (feedingsOf p)
+    sound = feedings-sound p (h .in-range) can
+
+    fed-is : d .fed ≡ wordsOf (feedingsOf p)
+    fed-is = words-of words (length-placing s (feedingsOf p) sound) (placing-rows s (feedingsOf p) sound)
+
     holds : Holds (s .slots) (length (s .jobs)) (d .fed) (feedingsOf p)
     holds =
-        record {
-          rations = length-placing s (feedingsOf p) (feedings-sound p (h .in-range) can);
-          rows = placing-rows s (feedingsOf p) (feedings-sound p (h .in-range) can);
-          fed = λ j t m l. bit-has (has (getD (feedingsOf p) j []) t) _ (words .rows t l .bits j m);
-          few = λ t l. words .rows t l .few;
-        }
-      where
-        bit-has : (x : Bool) (w : ℕ) → w ≡ one x → x ≡ eqb w 1
-        bit-has true w f = sym (eq-eqb w 1 f)
-        bit-has false w f = sym (ne-eqb w 1 (λ z. omega (arith, f, z)))
+        subst (λ n. Holds (s .slots) n (d .fed) (feedingsOf p)) (length-placing s (feedingsOf p) sound)
+        (words-hold (s .slots) (feedingsOf p) (placing-rows s (feedingsOf p) sound) (d .fed)
+        (λ t l. ap (λ xs. getD xs t 0) fed-is ∙ getD-wordsOf (feedingsOf p) t (omega (arith, values .head .slots .le))))
 
     pub counts-are : take (s .slots) (d .counts) ≡ countsOf p
     counts-are =
@@ -135,7 +132,7 @@ module _ {p : Problem} {r : Reading} {d : Day} (h : DayOf p r d) where
               omega (
                 arith,
                 words-load words (holds .rations) (holds .rows) t l,
-                counts-le s (feedingsOf p) (feedings-sound p (h .in-range) can) t l,
+                counts-le s (feedingsOf p) sound t l,
                 values .head .blowers .le,
               );
           room = room;
@@ -181,10 +178,7 @@ module _ {p : Problem} {r : Reading} {d : Day} (h : DayOf p r d) where
     where
       go : (b : Bool) → d .held ≡ b → d .fed ≡ wordsFor p
       go true e = h .no-fed e ∙ no-words ∙ sym (words-held p (cannot e))
-      go false e =
-          words-of (words e) (length-placing s (feedingsOf p) (feedings-sound p (h .in-range) (can e)))
-          (placing-rows s (feedingsOf p) (feedings-sound p (h .in-range) (can e)))
-          ∙ sym (words-plan p (can e))
+      go false e = fed-is e ∙ sym (words-plan p (can e))
 
   pub fed-long : length (d .fed) ≡ placingWords
   fed-long = ap length day-words ∙ length-wordsFor p

@@ -25,7 +25,7 @@ use Rattle.feedings.specs.CellChoice.{ScheduleWords}
 use Rattle.plan_lines.specs.Lines.{Line, partAt, slotLines, feedLines, planLines}
 use Rattle.plan_lines.specs.Text.{planText}
 use Rattle.plan_lines.specs.PlacingForms.{wordOf, wordsOf}
-use Rattle.plan_lines.specs.PlacingFormLaws.{bit-wordOf, wordOf-few, length-wordsOf, getD-wordsOf, words-are, one-marked}
+use Rattle.plan_lines.specs.PlacingFormLaws.{bit-wordOf, wordOf-few, length-wordsOf, getD-wordsOf, words-are, one-is}
 use Rattle.plan_lines.specs.Inputs.{tankAt, tanksOf, rowOf, placingOf, setOf}
 use Rattle.plan_lines.specs.SetBits.{setBits-past}
 use Rattle.plan_lines.specs.FeedLaws.{wordLines, slotLines-word, has-rowOf}
@@ -86,13 +86,23 @@ words-of {n} {d} {p} {W} h e rows = words-are p W (h .long) (λ t j l. at t j (d
         none t j (ap (λ w. bit w j) (h .past t (omega arith)) ∙ bit-of-zero j)
         (ap (λ c. has c t) (List·getD-eq-default p [] {n = j} (omega (arith, e))))
 
+-- where the day's words are those of a placing, they hold it
+pub words-hold : (slots : ℕ) (p : Schedule) → Rows slots p → (words : List ℕ) → ((t : ℕ) → t < slots → getD words t 0 ≡ wordOf p t)
+    → Holds slots (length p) words p
+words-hold slots p rows words e =
+    record {
+      rations = refl;
+      rows = rows;
+      fed = λ j t l k. sym (ap (λ w. eqb (bit w j) 1) (e t k) ∙ ap (λ b. eqb b 1) (bit-wordOf p t j) ∙ one-is (has (getD p j []) t));
+      few = λ t k. rw (e t k) (wordOf-few p t);
+    }
+
 -- a placing is read back from its words, whatever lies after them
 pub placingOf-words : (slots : ℕ) → slots ≤ maxSlots → (p : Schedule) → Rows slots p → (old : List ℕ)
     → placingOf slots (length p) (over (wordsOf p) old) ≡ p
 unfolding over
 placingOf-words slots short p rows old =
-    placingOf-holds slots (length p) (over (wordsOf p) old) p (omega (arith, length-append (wordsOf p) rest, length-wordsOf p))
-    (record { rations = refl; rows = rows; fed = λ j t l k. sym (ap (λ w. eqb (bit w j) 1) (word t k) ∙ ap (λ b. eqb b 1) (bit-wordOf p t j) ∙ one-marked (has (getD p j []) t)); few = λ t k. rw (word t k) (wordOf-few p t) })
+    placingOf-holds slots (length p) (over (wordsOf p) old) p (omega (arith, length-append (wordsOf p) rest, length-wordsOf p)) (words-hold slots p rows (over (wordsOf p) old) word)
   where
     rest : List ℕ
     rest = drop (length (wordsOf p)) old

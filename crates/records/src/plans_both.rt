@@ -8,8 +8,8 @@ ghost use Rattle.planning.specs.Problem.{alone, listingOf, wordsFor};
 ghost use Rattle.planning.specs.Planning.{planRefusalFor, shortPlan, shortPlacing, listedAnswer, listingAfter, placingAfter};
 ghost use Rattle.records.specs.Records.{recordSheet, recordFaults};
 
-// Plans the day of a record for each ration, with a plan buffer and a placing buffer lent: what `planning::plan_both` answers and writes for the sheet that these
-// records make, and nothing written on any refusal but 12.
+// Plans the day of a record for each ration, with a plan buffer and a placing buffer lent: what `planning::plan_both`
+// answers and writes for the sheet that these records make, and nothing written on any refusal but 12.
 #[no_mangle]
 pub extern "C" fn kiwimound_plan_rations_both(
     slots: u32,
