@@ -32,6 +32,7 @@ extern "C" {
 #define KIWIMOUND_LISTING_BYTES 32303u   /* the least length of a plan buffer */
 #define KIWIMOUND_PLACING_WORDS 96u      /* the least length of a placing buffer, in words of 64 bits */
 #define KIWIMOUND_CAUSES_BYTES 65536u    /* the least length of a buffer for causes; no listing of causes is longer */
+#define KIWIMOUND_PRACTICE_BYTES 1365u   /* the longest practice sheet: a buffer that is long enough for every seed */
 #define KIWIMOUND_MAX_SLOTS 96u
 #define KIWIMOUND_MAX_BLOWERS 8u
 #define KIWIMOUND_MAX_WAKE 200u
@@ -88,7 +89,7 @@ typedef struct kiwimound_reading {
                                * rations, one after another: its meals */
 } kiwimound_reading;
 
-/* Of writing a sheet: the length of the sheet written, 0 on a refusal. */
+/* Of writing a sheet, a practice sheet too: the length of the sheet written, 0 on a refusal. */
 typedef struct kiwimound_written {
     uint32_t number;
     uint32_t line;
@@ -148,6 +149,17 @@ kiwimound_reading kiwimound_read(const uint8_t *sheet, size_t sheet_length);
  * Number 0 writes the sheet at the front of `out`; bytes after it keep their values. */
 kiwimound_written kiwimound_write(uint32_t slots, uint32_t blowers, uint32_t wake, uint32_t rations, const uint32_t *numbers, size_t numbers_length,
                                   uint8_t *out, size_t out_length);
+
+/* Writes the practice sheet of a seed, which is any number of 32 bits: a sheet to load a cabinet with before there are
+ * fish. The one refusal is 10, for `out` shorter than KIWIMOUND_SHEET_BYTES of the rations that this seed draws;
+ * KIWIMOUND_PRACTICE_BYTES are enough for every seed. Number 0 writes the sheet at the front of `out`; bytes after it
+ * keep their values. Every practice sheet passes the checks 1 to 9 and 13; some are held, and planning shows why.
+ *
+ * Each draw sets s, at first the seed, to 1,664,525 * s + 1,013,904,223 with what passes 32 bits dropped, and yields
+ * the new s divided by 65,536, rounded down. In this order: slots are 96, blowers 1 + draw % 8, wake draw % 201, rations
+ * draw % 65; then for each of the tanks 1, 2, .. the first slot is 1 + draw % 96, the last one
+ * first + draw % (97 - first), and the volume 1 + draw % (last - first + 1). */
+kiwimound_written kiwimound_practice(uint32_t seed, uint8_t *out, size_t out_length);
 
 /* Where the lines of a tank are in the sheet, all of them as one part, closing bytes 10 included: the length is
  * KIWIMOUND_LINE_BYTES for each. The part is empty, start and length 0, where the sheet is refused by 1 to 9 or 13

@@ -1,5 +1,6 @@
-/* Every call of the library, on the days of document 01 ("Days at the edge"), on days with several meals for a tank and
- * on days for the placing, for the bill and for causes: what it answers, what it writes, and what keeps its value. */
+/* Every call of the library, on the days of document 01 ("Days at the edge"), on days with several meals for a tank, on
+ * days for the placing, for the bill and for causes, and on practice sheets: what it answers, what it writes, and what
+ * keeps its value. */
 #include "kiwimound.h"
 
 #include <stdio.h>
@@ -410,6 +411,117 @@ static void test_refused(void)
     EXPECT(kept(listing, sizeof listing, 0) && kept(placing, sizeof placing, 0));
 }
 
+/* The sheet of a seed is this one, with buffers just long enough and longer; shorter ones are refused. */
+static bool is_practice(uint32_t seed, const uint8_t *sheet, size_t length)
+{
+    static uint8_t out[KIWIMOUND_PRACTICE_BYTES + SPARE];
+    const size_t few[] = {0, 1, KIWIMOUND_LINE_BYTES - 1, length - KIWIMOUND_LINE_BYTES, length - 1};
+    const size_t enough[] = {length, length + 1, KIWIMOUND_PRACTICE_BYTES, sizeof out};
+    memset(out, GUARD, sizeof out);
+    for (size_t i = 0; i < sizeof few / sizeof *few; i++) {
+        const kiwimound_written w = kiwimound_practice(seed, out, few[i]);
+        if (w.number != KIWIMOUND_SHORT_BUFFER || w.line != 0 || w.length != 0 || !kept(out, sizeof out, 0))
+            return false;
+    }
+    for (size_t i = 0; i < sizeof enough / sizeof *enough; i++) {
+        memset(out, GUARD, sizeof out);
+        const kiwimound_written w = kiwimound_practice(seed, out, enough[i]);
+        if (w.number != 0 || w.line != 0 || w.length != length)
+            return false;
+        if (memcmp(out, sheet, length) != 0 || !kept(out, sizeof out, length))
+            return false;
+    }
+    return true;
+}
+
+/* A draw of request 107. In 64 bits nothing is lost before the remainder drops what passes 32. */
+static uint32_t draw(uint64_t *s)
+{
+    *s = (1664525 * *s + 1013904223) % 4294967296u;
+    return (uint32_t)(*s / 65536);
+}
+
+/* Writes the numbers that a seed draws as a sheet, which must be accepted and read back to them. Gives its length. */
+static size_t write_drawn(uint32_t seed, uint8_t sheet[KIWIMOUND_PRACTICE_BYTES])
+{
+    uint32_t numbers[4 * KIWIMOUND_MAX_RATIONS] = {0};
+    uint64_t s = seed;
+    const uint32_t blowers = 1 + draw(&s) % 8;
+    const uint32_t wake = draw(&s) % 201;
+    const uint32_t n = draw(&s) % 65;
+    for (uint32_t i = 0; i < n; i++) {
+        const uint32_t first = 1 + draw(&s) % 96;
+        const uint32_t last = first + draw(&s) % (97 - first);
+        const uint32_t volume = 1 + draw(&s) % (last - first + 1);
+        memcpy(numbers + 4 * i, (uint32_t[]){i + 1, first, last, volume}, 4 * sizeof *numbers);
+    }
+    const kiwimound_written w =
+        kiwimound_write(96, blowers, wake, n, numbers, 4 * (size_t)n, sheet, KIWIMOUND_PRACTICE_BYTES);
+    EXPECT(w.number == 0 && w.length == KIWIMOUND_SHEET_BYTES(n));
+    const kiwimound_reading r = kiwimound_read(sheet, w.length);
+    EXPECT(r.number == 0 && r.slots == 96 && r.blowers == blowers && r.wake == wake && r.rations == n);
+    EXPECT(memcmp(r.numbers, numbers, sizeof numbers) == 0);
+    return w.length;
+}
+
+static void test_practice(void)
+{
+    /* From seed 21, draw by draw: 16,004, 12,015 and 13,002, which are 4 mod 8, 156 mod 201 and 2 mod 65; 29,177,
+     * 24,895 and 21,216, which are 89 mod 96, 3 mod 7 and 0 mod 4; then 25,919, 95 mod 96, which leaves one slot. */
+    static const char seed_21[] =
+        "   96    5  156    2\n"
+        "    1   90   93    1\n"
+        "    2   96   96    1\n";
+    EXPECT(is_practice(21, LEND(seed_21)));
+    EXPECT(is_planned(seed_21, /* blower 1 stays on from slot 93 to 96: 160 units at 22 tenths of a cent */
+                      "PLAN\n"
+                      "  160    1    8    2\n"
+                      "    1    1   92    0\n"
+                      "    1   93   93    2\n"
+                      "    1   94   95    1\n"
+                      "    1   96   96    2\n"
+                      "    2    1   96    0\n"
+                      "    3    1   96    0\n"
+                      "    4    1   96    0\n"
+                      "    5    1   96    0\n"
+                      "   93    1    1    1\n"
+                      "   96    1    2    1\n"
+                      "    3   52    0    0\n"));
+    static const char seed_1580[] =
+        "   96    1  108    2\n"
+        "    1   91   93    3\n"
+        "    2   91   93    1\n";
+    EXPECT(is_practice(1580, LEND(seed_1580)));
+    guard();
+    const kiwimound_planned p = kiwimound_plan(LEND(seed_1580), listing, sizeof listing);
+    EXPECT(p.number == KIWIMOUND_HELD && p.line == 0);
+    EXPECT(is_listing(p, /* three slots, and four feedings for one blower */
+                      "HELD\n"
+                      "   12    3    4    3\n"
+                      "   91    0    0    0\n"
+                      "   92    0    0    0\n"
+                      "   93    0    0    0\n"));
+
+    static uint8_t sheet[KIWIMOUND_PRACTICE_BYTES];
+    /* The last seeds that the program takes, the next one, the last of all; those after which s is 0 and 2^32 - 1. */
+    static const uint32_t others[] = {99998, 99999, 100000, UINT32_MAX - 1, UINT32_MAX, 634785765, 653637408};
+    enum { FROM_ZERO = 300, COUNT = FROM_ZERO + sizeof others / sizeof *others };
+    uint32_t planned = 0, held = 0;
+    size_t shortest = SIZE_MAX, longest = 0;
+    for (uint32_t i = 0; i < COUNT; i++) {
+        const uint32_t seed = i < FROM_ZERO ? i : others[i - FROM_ZERO];
+        const size_t length = write_drawn(seed, sheet);
+        EXPECT(is_practice(seed, sheet, length));
+        shortest = length < shortest ? length : shortest;
+        longest = length > longest ? length : longest;
+        const uint32_t number = kiwimound_plan_number(sheet, length).number;
+        planned += number == KIWIMOUND_ACCEPTED;
+        held += number == KIWIMOUND_HELD;
+    }
+    EXPECT(shortest == KIWIMOUND_LINE_BYTES && longest == KIWIMOUND_PRACTICE_BYTES);
+    EXPECT(planned != 0 && held != 0 && planned + held == COUNT);
+}
+
 static void test_compare(void)
 {
     kiwimound_compared c = kiwimound_compare(LEND(ONE_FEEDING), LEND(LAST_SLOT));
@@ -627,6 +739,7 @@ int main(void)
     test_bill();
     test_held();
     test_refused();
+    test_practice();
     test_compare();
     test_causes();
     test_causes_cut();

@@ -15,6 +15,9 @@ struct refusal refusal_of(const uint32_t head[4], const uint32_t *flat, size_t c
  * Gives the number of the reading. */
 uint32_t check_reading(const uint8_t *sheet, size_t size, uint32_t choice);
 
+/* The practice sheet of a seed, with buffers too short, just long enough and longer. Gives how many rations it has. */
+uint32_t check_practice(uint32_t seed);
+
 /* What planning came to; of causes, how many lines were listed. */
 struct outcome {
     uint32_t number, energy, cents, stretches, feeds, shown, causes;

@@ -1,6 +1,6 @@
 /* What libFuzzer runs. An input is four bytes that choose the sizes lent, and a sheet. Compiled with -DREADING for
- * the reading calls alone, which get bytes changed at random; else for all calls, which get mostly sheets changed by
- * their fields. */
+ * the reading calls, which get bytes changed at random, and for practice sheets, of which the four bytes are the seed;
+ * else for the planning calls, which get mostly sheets changed by their fields. */
 #include "checks.h"
 #include "mutate.h"
 
@@ -28,6 +28,7 @@ int LLVMFuzzerTestOneInput(const uint8_t *data, size_t size) {
     uint32_t meals = 0; /* beyond the first of their tank */
     for (uint32_t i = 1; i < r.rations; i++) meals += r.numbers[4 * i] == r.numbers[4 * i - 4];
     reach(2300 + meals);
+    reach(2400 + check_practice(choice));
 #else
     struct outcome o = check_planning(sheet, size, choice);
     reach(o.number);

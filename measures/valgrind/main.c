@@ -10,6 +10,7 @@ int main(void) {
     for (long n; (n = next_sheet(sheet, sizeof sheet)) >= 0; sheets++) {
         uint32_t choice = sheets * 2654435769u;
         check_reading(sheet, (size_t)n, choice);
+        check_practice(choice);
         numbers[check_planning(sheet, (size_t)n, choice).number]++;
     }
     printf("%u sheets, by number:", sheets);

@@ -11,6 +11,7 @@ pub mod generate;
 pub mod listing;
 pub mod method;
 pub mod placing;
+pub mod practice;
 pub mod sets;
 pub mod sheet;
 pub mod through;

@@ -6,18 +6,21 @@ use reference::damage;
 use reference::draws::Draws;
 use reference::generate::{self, FULL};
 use reference::listing;
-use reference::through::{through, Expected};
+use reference::practice;
+use reference::through::{seed_inputs, sheet_inputs, through, Expected, Input};
 use std::io::{self, Read, Write};
 use std::process::ExitCode;
 
 const USAGE: &str = "usage: reference plan < sheet > listing
        reference why < sheet > listing
+       reference practice < seed > sheet
        reference sheet KIND SEED > sheet
        reference cases STREAM-in | STREAM-out
-       reference through PLANNER [WHY]
+       reference through PLANNER [WHY [PRACTICE]]
+A seed is a number from 0 to 99,999 in a field of five columns, closed by byte 10.
 KIND is random, whole-day, tight, crowded, jagged, held or damaged; SEED is a number of
 32 bits.
-STREAM is sheet, placing, plan, days or causes.";
+STREAM is sheet, placing, plan, days, causes, practice or seeds.";
 
 fn main() -> ExitCode {
     let arguments: Vec<String> = std::env::args().skip(1).collect();
@@ -40,27 +43,43 @@ fn answer(words: &[&str]) -> Option<io::Result<Vec<u8>>> {
     match *words {
         ["plan"] => Some(read_input().map(|bytes| listing::program(&bytes))),
         ["why"] => Some(read_input().map(|bytes| causes::why(&bytes))),
+        ["practice"] => Some(read_input().map(|bytes| practice::program(&bytes))),
         ["sheet", kind, seed] => generated(kind, seed.parse().ok()?).map(Ok),
         ["cases", file] => case_file(file).map(Ok),
-        ["through", planner] => Some(tried(planner, listing::program)),
-        ["through", planner, why] => Some(tried_both(planner, why)),
+        ["through", ref paths @ ..] => tried_all(paths),
         _ => None,
     }
 }
 
-/// How many inputs a program answered as expected; an error at the first that it did not.
-fn tried(path: &str, expected: Expected) -> io::Result<Vec<u8>> {
-    match through(path, expected)? {
-        Ok(count) => Ok(format!("{count} inputs, each answered as expected\n").into_bytes()),
-        Err(input) => Err(io::Error::other(format!("another output for\n{input}"))),
+/// The programs, in the order in which `through` is given them: the inputs of each, and what
+/// it must write.
+type Trial = (fn() -> Vec<Input>, Expected);
+const TRIALS: [Trial; 3] = [
+    (sheet_inputs, listing::program),
+    (sheet_inputs, causes::why),
+    (seed_inputs, practice::program),
+];
+
+/// What is said of each of these programs, none if there is none or too many.
+fn tried_all(paths: &[&str]) -> Option<io::Result<Vec<u8>>> {
+    if paths.is_empty() || paths.len() > TRIALS.len() {
+        return None;
     }
+    let each = paths.iter().zip(TRIALS);
+    let said: io::Result<Vec<Vec<u8>>> = each.map(|(path, trial)| tried(path, trial)).collect();
+    Some(said.map(|said| said.concat()))
 }
 
-/// The same of both programs, one after the other.
-fn tried_both(planner: &str, why: &str) -> io::Result<Vec<u8>> {
-    let planner = tried(planner, listing::program)?;
-    let why = tried(why, causes::why)?;
-    Ok([planner, why].concat())
+/// How many inputs a program answered as expected; an error at the first that it did not.
+fn tried(path: &str, (inputs, expected): Trial) -> io::Result<Vec<u8>> {
+    let inputs = inputs();
+    match through(path, &inputs, expected)? {
+        Ok(()) => {
+            let count = inputs.len();
+            Ok(format!("{count} inputs, each answered as expected\n").into_bytes())
+        }
+        Err(input) => Err(io::Error::other(format!("another output for\n{input}"))),
+    }
 }
 
 /// Makes the output expected for cases.
@@ -75,6 +94,8 @@ fn case_file(file: &str) -> Option<Vec<u8>> {
         "plan" => (cases::plan::cases(), cases::plan::output),
         "days" => (cases::days::cases(), cases::days::output),
         "causes" => (cases::causes::cases(), cases::causes::output),
+        "practice" => (cases::practice::cases(), cases::practice::output),
+        "seeds" => (cases::practice::all_seeds(), cases::practice::output),
         _ => return None,
     };
     match side {

@@ -1,6 +1,6 @@
-//! A program of the planner, run on sheets as a process and held to the output expected.
+//! A program of the planner, run on its inputs as a process and held to the output expected.
 
-use crate::cases::{causes, days};
+use crate::cases::{causes, days, practice};
 use std::io::{self, Write};
 use std::process::{Command, Stdio};
 use std::thread;
@@ -14,44 +14,80 @@ enum Pieces {
     Of(usize),
 }
 
+/// An input of a program.
+pub struct Input {
+    bytes: Vec<u8>,
+    pieces: Pieces,
+}
+
+impl Input {
+    fn whole(bytes: Vec<u8>) -> Self {
+        let pieces = Pieces::Whole;
+        Input { bytes, pieces }
+    }
+
+    fn in_pieces(bytes: Vec<u8>, length: usize) -> Self {
+        let pieces = Pieces::Of(length);
+        Input { bytes, pieces }
+    }
+}
+
 /// What a program must write for an input.
 pub type Expected = fn(&[u8]) -> Vec<u8>;
 
-/// Runs a program on every sheet, and gives how many there were or the first whose output
-/// is not as expected.
-pub fn through(path: &str, expected: Expected) -> io::Result<Result<usize, String>> {
+/// The inputs of the programs that read a sheet.
+pub fn sheet_inputs() -> Vec<Input> {
     let sheets = [days::program_sheets(), causes::program_sheets()].concat();
-    let mut inputs: Vec<(Vec<u8>, Pieces)> = Vec::new();
-    for sheet in &sheets {
-        inputs.push((sheet.clone(), Pieces::Whole));
-    }
+    let mut inputs: Vec<Input> = sheets.iter().cloned().map(Input::whole).collect();
     // Longer than the program reads at a time, in no form at all.
     for length in [65_536, 65_537, 200_000] {
-        inputs.push((vec![b' '; length], Pieces::Whole));
+        inputs.push(Input::whole(vec![b' '; length]));
     }
     for sheet in sheets.into_iter().take(12) {
-        inputs.push((sheet.clone(), Pieces::Of(1)));
-        inputs.push((sheet, Pieces::Of(30)));
+        inputs.push(Input::in_pieces(sheet.clone(), 1));
+        inputs.push(Input::in_pieces(sheet, 30));
     }
-    for (input, pieces) in &inputs {
-        let output = run(path, input, *pieces)?;
-        if output != expected(input) {
-            return Ok(Err(String::from_utf8_lossy(input).into_owned()));
+    inputs
+}
+
+/// The inputs of the program that reads a seed.
+pub fn seed_inputs() -> Vec<Input> {
+    let fields = practice::program_inputs();
+    let mut inputs: Vec<Input> = fields.iter().cloned().map(Input::whole).collect();
+    // A seed, and after it more than the program reads at a time.
+    for length in [65_536, 65_537, 65_542, 70_000, 200_000] {
+        inputs.push(Input::whole(practice::long_input(length)));
+    }
+    inputs.push(Input::in_pieces(practice::long_input(70_000), 4_096));
+    // One that ends, or that goes on, only after a pause.
+    for field in fields {
+        inputs.push(Input::in_pieces(field.clone(), 1));
+        inputs.push(Input::in_pieces(field, 5));
+    }
+    inputs
+}
+
+/// Runs a program on every input, and gives the first whose output is not as expected.
+pub fn through(path: &str, inputs: &[Input], expected: Expected) -> io::Result<Result<(), String>> {
+    for input in inputs {
+        let output = run(path, input)?;
+        if output != expected(&input.bytes) {
+            return Ok(Err(String::from_utf8_lossy(&input.bytes).into_owned()));
         }
     }
-    Ok(Ok(inputs.len()))
+    Ok(Ok(()))
 }
 
 /// What the program writes for this input.
-fn run(path: &str, input: &[u8], pieces: Pieces) -> io::Result<Vec<u8>> {
+fn run(path: &str, input: &Input) -> io::Result<Vec<u8>> {
     let mut command = Command::new(path);
     command.stdin(Stdio::piped()).stdout(Stdio::piped());
     let mut child = command.spawn()?;
     let mut stdin = child.stdin.take().expect("standard input is a pipe");
-    match pieces {
-        Pieces::Whole => write(&mut stdin, input)?,
+    match input.pieces {
+        Pieces::Whole => write(&mut stdin, &input.bytes)?,
         Pieces::Of(length) => {
-            for piece in input.chunks(length) {
+            for piece in input.bytes.chunks(length) {
                 write(&mut stdin, piece)?;
                 thread::sleep(Duration::from_millis(1));
             }

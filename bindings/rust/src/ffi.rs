@@ -12,6 +12,8 @@ const CAUSES_BYTES: usize = 65_536;
 pub const LINE_BYTES: usize = 21;
 /// The most rations of a sheet.
 pub const MAX_RATIONS: usize = 64;
+/// Bytes of the longest practice sheet.
+const PRACTICE_BYTES: usize = LINE_BYTES * (MAX_RATIONS + 1);
 
 #[repr(C)]
 pub struct Reading {
@@ -90,6 +92,7 @@ mod calls {
             out: *mut u8,
             out_length: usize,
         ) -> Written;
+        pub fn kiwimound_practice(seed: u32, out: *mut u8, out_length: usize) -> Written;
         pub fn kiwimound_find(sheet: *const u8, length: usize, tank: u32) -> Part;
         pub fn kiwimound_shortfall(
             sheet: *const u8,
@@ -153,6 +156,14 @@ pub fn write(
             out.len(),
         )
     }
+}
+
+/// Writes the practice sheet of a seed into a buffer that the longest one fits in, so that it is not too short.
+pub fn practice(seed: u32) -> Vec<u8> {
+    let mut sheet = vec![0; PRACTICE_BYTES];
+    let written = unsafe { calls::kiwimound_practice(seed, sheet.as_mut_ptr(), sheet.len()) };
+    sheet.truncate(written.length);
+    sheet
 }
 
 pub fn find(sheet: &[u8], tank: u32) -> Part {

@@ -126,6 +126,30 @@ impl Sheet {
         })
     }
 
+    /// The practice sheet of a seed: a day to load a cabinet with before there are fish. The same seed always makes the
+    /// same sheet.
+    ///
+    /// Each draw sets s, at first the seed, to 1,664,525 × s + 1,013,904,223 with what passes 32 bits dropped, and
+    /// yields the new s divided by 65,536, rounded down. In this order: slots are 96, blowers 1 + draw mod 8, the wake
+    /// cost draw mod 201, rations draw mod 65; then for each of the tanks 1, 2, .. the first slot is 1 + draw mod 96,
+    /// the last one first + draw mod (97 − first), and the volume 1 + draw mod the window's length.
+    ///
+    /// Every such sheet passes the checks of [`Sheet::read`]. Some are held when planned.
+    ///
+    /// ```
+    /// use kiwimound::Sheet;
+    ///
+    /// let sheet = Sheet::practice(21);
+    /// assert_eq!(
+    ///     sheet.bytes(),
+    ///     b"   96    5  156    2\n    1   90   93    1\n    2   96   96    1\n"
+    /// );
+    /// assert_eq!(Sheet::read(sheet.bytes()), Ok(sheet));
+    /// ```
+    pub fn practice(seed: u32) -> Sheet {
+        Sheet::read(ffi::practice(seed)).expect("every practice sheet passes the checks")
+    }
+
     /// The sheet's bytes.
     pub fn bytes(&self) -> &[u8] {
         &self.bytes

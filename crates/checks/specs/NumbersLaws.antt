@@ -1,11 +1,18 @@
--- Rations as flat numbers, four for each, and back. Assumes nothing.
-use mathlib.Core.Path.{_≡_, refl, ap}
-use mathlib.Core.List.{List, [], _∷_}
-use Prim.Native.Nat.{ℕ, zero, suc, _*_}
+-- Rations as flat numbers, four for each, and back; and how these are put one ration after another into a list of fixed
+-- length. Assumes nothing.
+use mathlib.Core.Path.{_≡_, refl, sym, ap, _∙_}
+use mathlib.Core.List.{List, [], _∷_, _++_, map, map-append}
+use Prim.Native.Nat.{ℕ, zero, suc, _+_, _*_}
+use native.Mathlib.Numerals.{add-one}
 use native.Mathlib.Omega.{arith}
-use lib.ListN.{length}
+use lib.ListN.{length, replicate}
+use Rattle.common.specs.Lists.{range}
+use Rattle.common.specs.ListLaws.{range-snoc, length-from, flatMap-append}
+use Rattle.common.specs.Buffers.{padded, putAt}
+use Rattle.common.specs.BufferLaws.{putAt-padded}
 use Rattle.line.specs.Layout.{fields}
-use Rattle.checks.specs.Sheet.{Job, numbersOf, jobsOf}
+use Rattle.checks.specs.Limits.{maxRations}
+use Rattle.checks.specs.Sheet.{Job, jobNumbers, numbersOf, jobsOf}
 
 pub length-numbersOf : (js : List Job) → length (numbersOf js) ≡ fields * length js
 unfolding numbersOf
@@ -29,3 +36,38 @@ numbersOf-jobsOf (suc n) (a ∷ b ∷ c ∷ d ∷ xs) e = ap (λ (l : List ℕ).
 
 pub length-jobsOf : (n : ℕ) (xs : List ℕ) → length xs ≡ fields * n → length (jobsOf xs) ≡ n
 length-jobsOf n xs e = omega (arith, length-numbersOf (jobsOf xs), ap length (numbersOf-jobsOf n xs e))
+
+-- Ration after ration ----------------------------------------------------------------
+
+-- a ration for each line or tank
+module _ (job : ℕ → Job) where
+  -- the numbers of the first n, from 1
+  abbrev pub numbersTo : ℕ → List ℕ
+  numbersTo n = numbersOf (map job (range 1 n))
+
+  pub length-numbersTo : (n : ℕ) → length (numbersTo n) ≡ fields * n
+  length-numbersTo n = length-numbersOf (map job (range 1 n)) ∙ ap (λ k. fields * k) (length-from job 1 n)
+
+  pub numbersTo-none : replicate (fields * maxRations) 0 ≡ padded (fields * maxRations) (numbersTo 0)
+  unfolding padded numbersOf
+  numbersTo-none = refl
+
+  one-more : (i : ℕ) → numbersTo (i + 1) ≡ numbersTo i ++ jobNumbers (job (i + 1))
+  unfolding numbersOf
+  one-more i =
+      ap numbersTo (add-one i)
+      ∙ ap (λ r. numbersOf (map job r)) (range-snoc 1 i)
+      ∙ ap numbersOf (map-append job (range 1 i) ((1 + i) ∷ []))
+      ∙ flatMap-append _ (map job (range 1 i)) (job (1 + i) ∷ [])
+      ∙ ap (λ k. numbersTo i ++ jobNumbers (job k)) (swap i)
+    where
+      swap : (i : ℕ) → 1 + i ≡ i + 1
+      swap i = omega arith
+
+  pub numbersTo-next : (i : ℕ)
+      → putAt (fields * i) (jobNumbers (job (i + 1))) (padded (fields * maxRations) (numbersTo i))
+      ≡ padded (fields * maxRations) (numbersTo (i + 1))
+  numbersTo-next i =
+      ap (λ at. putAt at (jobNumbers (job (i + 1))) (padded (fields * maxRations) (numbersTo i))) (sym (length-numbersTo i))
+      ∙ putAt-padded (fields * maxRations) (numbersTo i) (jobNumbers (job (i + 1)))
+      ∙ ap (padded (fields * maxRations)) (sym (one-more i))

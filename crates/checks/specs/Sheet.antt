@@ -60,8 +60,11 @@ writeSheet s = writeLine (s .slots) (s .blowers) (s .wake) (length (s .jobs)) ++
 
 -- Rations as flat numbers, four for each --------------------------------------
 
+abbrev pub jobNumbers : Job → List ℕ
+jobNumbers j = j .tank ∷ j .release ∷ j .deadline ∷ j .volume ∷ []
+
 unfoldable pub numbersOf : List Job → List ℕ
-numbersOf = flatMap (λ j. j .tank ∷ j .release ∷ j .deadline ∷ j .volume ∷ [])
+numbersOf = flatMap jobNumbers
 
 -- the rations that flat numbers stand for; what is left of fewer than four stands for none
 unfoldable pub jobsOf : List ℕ → List Job

@@ -7,6 +7,7 @@ use Prim.Native.Nat.{ℕ, zero, suc, _+_, _-_, _*_, _^_, _≤_, _<_}
 use native.Mathlib.Omega.{arith}
 use lib.ListN.{length, getD, length-append, length-map}
 use Rattle.common.specs.Lists.{range, flatMap}
+use Rattle.common.specs.ListLaws.{length-from}
 use Rattle.common.specs.ChunkLaws.{chunk-zero, chunk-suc, length-chunk, flatMap-chunk}
 use Rattle.line.specs.Layout.{width, fields, lineBytes}
 use Rattle.line.specs.Line.{valueAt, faultyLine, writeLine}
@@ -177,13 +178,9 @@ module _ (b : List ℕ) (n : ℕ) (size : length b ≡ lineBytes * n) (good : (i
   writeJobs-lines i zero e = refl
   writeJobs-lines i (suc k) e = ap₂ (λ (x y : List ℕ). x ++ y) (sym (writeLine-lineAt i (omega arith))) (writeJobs-lines (suc i) k (omega arith))
 
-length-range : (i k : ℕ) → length (range i k) ≡ k
-length-range i zero = refl
-length-range i (suc k) = ap suc (length-range (suc i) k)
-
 pub length-jobs-sheetOf : (b : List ℕ) → length (sheetOf b .jobs) ≡ lineCount b - 1
 unfolding sheetOf
-length-jobs-sheetOf b = length-map (range 1 (lineCount b - 1)) (jobAt b) ∙ length-range 1 (lineCount b - 1)
+length-jobs-sheetOf b = length-from (jobAt b) 1 (lineCount b - 1)
 
 -- A head line and m ration lines, none faulty, with m announced on the head line, are the bytes that are written for their numbers.
 pub writeSheet-sheetOf : (b : List ℕ) (m : ℕ) → length b ≡ lineBytes * suc m → ((i : ℕ) → i < suc m → faultyLine (lineAt b i) ≡ false)

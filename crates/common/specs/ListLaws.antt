@@ -44,7 +44,7 @@ range-snoc a (suc n) = ap (λ l. a ∷ l) (range-snoc (suc a) n ∙ ap (λ k. ra
     next a n = omega arith
 
 module _ {A : Type 0} (f : ℕ → A) where
-  length-from : (a n : ℕ) → length (map f (range a n)) ≡ n
+  pub length-from : (a n : ℕ) → length (map f (range a n)) ≡ n
   length-from a zero = refl
   length-from a (suc n) = ap suc (length-from (suc a) n)
 

@@ -10,8 +10,9 @@ use lib.IntN.{ℤ}
 use lib.ListN.{length, take, drop, replicate}
 use Rattle.checks.specs.declared.Refusal.{Refusal}
 use Rattle.checks.specs.Refusals.{noPlacing}
-use Rattle.line.specs.Layout.{lineBytes}
-use Rattle.checks.specs.Sheet.{Sheet, lineCount, lineAt, writeSheet}
+use Rattle.line.specs.Layout.{fields, lineBytes}
+use Rattle.checks.specs.Sheet.{Sheet, lineCount, lineAt, writeSheet, numbersOf}
+use Rattle.sheet.specs.declared.Reading.{Reading}
 use Rattle.line.specs.Line.{valueAt}
 use Rattle.schedules.specs.Schedules.{Schedule, Sound}
 use Rattle.schedules.specs.Shortfall.{shortfall}
@@ -24,7 +25,7 @@ use Rattle.plan_lines.specs.Text.{refusalText}
 use Rattle.planning.specs.Problem.{Problem, feedingsOf, planListing, heldListing}
 use Rattle.cause_lines.specs.Entries.{entriesText, causesText, MostThatFit}
 use Rattle.causes.specs.CauseCalls.{endingsOf}
-use Rattle.program.specs.Program.{outputOf, explanationOf}
+use Rattle.program.specs.Program.{outputOf, explanationOf, madeSheetOf}
 
 -- The number and the line -------------------------------------------------------------------
 
@@ -53,6 +54,17 @@ ShortfallOf s marks x = x ≡ shortfall (demandsOf s) (fullHigh s) (marked marks
 -- yes exactly where a sound placing exists under these lows and highs, a high above m being read as m
 abbrev pub YesFor : Sheet → (lows highs : List ℕ) → Bool → Type 0
 YesFor s lows highs answer = (answer ≡ true) ↔ ((p : Schedule) × Sound (s .slots) (demandsOf s) lows (cutHighs (s .blowers) highs) p)
+
+-- Reading ------------------------------------------------------------------------------------
+
+-- a sheet is accepted, and the values read are these
+pub record ValuesRead (s : Sheet) (v : Reading) : Type 0 where
+  pub number : v .number ≡ 0
+  pub slots : v .slots ≡ s .slots
+  pub blowers : v .blowers ≡ s .blowers
+  pub wake : v .wake ≡ s .wake
+  pub rations : v .rations ≡ length (s .jobs)
+  pub numbers : take (fields * v .rations) (v .numbers) ≡ numbersOf (s .jobs)
 
 -- The look-up --------------------------------------------------------------------------------
 
@@ -118,6 +130,10 @@ programText b = take (outputOf b .length) (outputOf b .bytes)
 -- what the program `why` writes for its input: the first bytes of what `program::explain` gives
 abbrev pub whyText : List ℕ → List ℕ
 whyText b = take (explanationOf b .length) (explanationOf b .bytes)
+
+-- what the practice sheets' program writes for its input: the first bytes of what `program::make_sheet` gives
+abbrev pub practiceText : List ℕ → List ℕ
+practiceText b = take (madeSheetOf b .length) (madeSheetOf b .bytes)
 
 -- That text of the planner, where planning gives this number and this line.
 pub record ProgramText (p : Problem) (number line : ℕ) (text : List ℕ) : Type 0 where

@@ -1,5 +1,5 @@
 -- The days of 'Days at the edge' as one table: a question about a sheet's text, beside what document 01 says, and
--- requests 101 to 106 where they change that or say more. `answer` gives the answer of the definitions; a plan's
+-- requests 101 to 107 where they change that or say more. `answer` gives the answer of the definitions; a plan's
 -- numbers are read off the program's whole output. Assumes nothing.
 use mathlib.Core.Path.{_≡_, refl}
 use mathlib.Core.Bool.{Bool, false}
@@ -15,8 +15,8 @@ use Rattle.questions.specs.Calls.{shortfallOf, boundsOf}
 use Rattle.plan_lines.specs.Lines.{Line, line}
 use Rattle.planning.specs.Problem.{alone, countsOf, wordsFor}
 use Rattle.planning.specs.ReadListing.{linesOf, headLine, stretchPart, feedPart, billOn}
-use Rattle.program.specs.Program.{output, explanation}
-use Rattle.demands.specs.Meanings.{listings, placings, causes}
+use Rattle.program.specs.Program.{output, explanation, seedOutput}
+use Rattle.demands.specs.Meanings.{listings, placings, causes, practices}
 
 -- Questions and answers -------------------------------------------------------------
 
@@ -43,6 +43,8 @@ pub data Question : Type 0 where
   boundsFor : Sheet → (lows highs : List ℕ) → Question
   -- what the program `why` writes
   causesFor : Sheet → Question
+  -- what the program of practice sheets writes for an input, given as lines too
+  practiceFor : (input : List String) → Question
   -- all lines of a tank
   linesFor : Sheet → (tank : ℕ) → Question
 
@@ -72,6 +74,7 @@ answer (billFor s) = lines (billOn (outputLines s) ∷ [])
 answer (shortfallFor s marks) = let r = shortfallOf (text s) marks in signed (r .number) (r .line) (r .shortfall)
 answer (boundsFor s lows highs) = let r = boundsOf (text s) lows highs in isYes (r .number) (r .line) (r .yes)
 answer (causesFor s) = bytes (explanation (text s))
+answer (practiceFor input) = bytes (seedOutput (text input))
 answer (linesFor s tank) = bytes (lookUp (text s) tank)
 
 -- A row: the question, and the answer that the papers state or that follows from them.
@@ -278,3 +281,29 @@ causeDays =
 pub cause-days-as-stated : AsStated causeDays
 unfolding causes
 cause-days-as-stated = refl
+
+-- Practice sheets (request 107) -----------------------------------------------------------
+
+-- refusal 2, line 1
+abbrev noSeed : Answer
+noSeed = bytes (text ("HELD" ∷ "    2    1    0    0" ∷ []))
+
+-- Seed 21 by its draws: 16,004, 12,015 and 13,002 for the head line, 29,177, 24,895 and 21,216 for tank 1, 25,919, 57,622
+-- and 12,504 for tank 2. Seed 9: 15,699, 6,219 and 64,350, which 65 divides, so that there is no ration. Then inputs that
+-- are no seed: a leading zero, a column less and one more, a blank after the digits, a second line, nothing at all.
+abbrev pub practiceDays : List Day
+practiceDays =
+    day (practiceFor ("   21" ∷ []))
+    (bytes (text ("   96    5  156    2" ∷ "    1   90   93    1" ∷ "    2   96   96    1" ∷ [])))
+    ∷ day (practiceFor ("    9" ∷ [])) (bytes (text ("   96    4  189    0" ∷ [])))
+    ∷ day (practiceFor ("00021" ∷ [])) noSeed
+    ∷ day (practiceFor ("  21" ∷ [])) noSeed
+    ∷ day (practiceFor ("    21" ∷ [])) noSeed
+    ∷ day (practiceFor ("  21 " ∷ [])) noSeed
+    ∷ day (practiceFor ("   21" ∷ "   21" ∷ [])) noSeed
+    ∷ day (practiceFor []) noSeed
+    ∷ []
+
+pub practice-days-as-stated : AsStated practiceDays
+unfolding practices
+practice-days-as-stated = refl

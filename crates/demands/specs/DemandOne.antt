@@ -11,7 +11,7 @@
 use mathlib.Core.Path.{_≡_, refl, sym, ap, _∙_}
 use mathlib.Core.Bool.{false, _||_, not}
 use mathlib.Core.List.{List, [], _++_}
-use Prim.Native.Nat.{ℕ, suc, _*_, _<_}
+use Prim.Native.Nat.{ℕ, suc, _*_, _≤_, _<_}
 use native.Mathlib.Omega.{arith}
 use lib.Dec.{ltb, eqb}
 use lib.IntN.{pos}
@@ -20,12 +20,14 @@ use Rattle.common.specs.Lists.{count}
 use Rattle.lookup.specs.declared.Part.{Part}
 use Rattle.line.specs.Layout.{lineBytes, fields}
 use Rattle.checks.specs.Limits.{maxBytes, maxRations}
-use Rattle.checks.specs.Refusals.{badLength, shortBuffer}
-use Rattle.checks.specs.Sheet.{Sheet, sheetOf, sheetFrom}
+use Rattle.checks.specs.Refusals.{badLength, badForm, shortBuffer}
+use Rattle.checks.specs.Sheet.{Sheet, sheetOf, sheetFrom, writeSheet}
 use Rattle.checks.specs.Checks.{fault, valueFaults, faults}
 use Rattle.checks.specs.CallChecks.{writeChecks, questionChecks, comparisonChecks}
 use Rattle.sheet.specs.Calls.{refused, readingOf, writeRefusal, writtenOf, bufferAfter, writeRefusalFor}
 use Rattle.lookup.specs.LookUp.{lookUp, placeOf}
+use Rattle.practice.specs.Practice.{practiceSheet, practiceRefusal}
+use Rattle.practice.specs.SeedLaws.{seedInput}
 use Rattle.checks.specs.FaultLaws.{numbered-valueFaults}
 use Rattle.sheet.specs.OwnCheckLaws.{bytes-checked}
 use Rattle.checks.specs.SheetLaws.{length-writeSheet}
@@ -45,10 +47,11 @@ use Rattle.program.specs.Theorems.{program-front}
 use Rattle.program.specs.Theorems as Program
 use Rattle.records.specs.declared.Ration.{Ration}
 use Rattle.records.specs.Records.{recordSheet, recordFaults}
-use Rattle.demands.specs.Answers.{FirstOf, NotZero, ShortfallOf, YesFor, NoLineOf, PlanBuffer, PlacingBuffer, CausesListed, CausesBuffer, SheetBuffer, programText, whyText, ProgramText}
+use Rattle.demands.specs.Answers.{FirstOf, NotZero, ShortfallOf, YesFor, NoLineOf, PlanBuffer, PlacingBuffer, CausesListed, CausesBuffer, SheetBuffer, programText, whyText, practiceText, ProgramText}
 use Rattle.demands.specs.Outcome.{AloneIs}
 use Rattle.demands.specs.AnswerLaws.{alone-is, first-of, numbered-one, numbered-compared, first-alone, buffer-alone, placing-alone, both-alone, first-asked, zero-unless, no-unless, shortfall-is, yes-for, sheet-buffer, room-sheet, write-room, read-first, read-nothing, records-checked, program-text}
 use Rattle.demands.specs.CausesLaws.{causes-listed, causes-buffer, causes-room, why-front, why-causes, why-refused}
+use Rattle.demands.specs.PracticeLaws.{practice-taken, practice-refused}
 
 pub record DemandOne : Type 0 where
   -- Sheets: the checks 1 to 9 and 13 of bytes, 3 to 9 and 13 of values, 10 where a sheet is written --------
@@ -61,6 +64,11 @@ pub record DemandOne : Type 0 where
   pub write : (slots blowers wake n : ℕ) (numbers out : List ℕ) → let s = sheetFrom slots blowers wake numbers in
       let r = writeRefusal s n numbers (length out) in let a = writtenOf r s in
       FirstOf (writeChecks (valueFaults s n (eqb (fields * n) (length numbers))) (ltb (length out) (lineBytes * suc n))) (a .number) (a .line)
+      × SheetBuffer s (a .number) (a .length) out (bufferAfter r s out)
+  -- of a practice sheet 10 alone, where the buffer is too short for it
+  pub practice : (seed : ℕ) (out : List ℕ) → let s = practiceSheet seed in
+      let r = practiceRefusal seed (length out) in let a = writtenOf r s in
+      FirstOf (writeChecks [] (ltb (length out) (lineBytes * suc (length (s .jobs))))) (a .number) (a .line)
       × SheetBuffer s (a .number) (a .length) out (bufferAfter r s out)
   -- a look-up is empty where the sheet is refused, and where it lacks the tank
   pub find : (b : List ℕ) (tank : ℕ) → ((faults b ≡ [] → ⊥) → lookUp b tank ≡ []) × (NoLineOf b tank → lookUp b tank ≡ [])
@@ -136,6 +144,10 @@ pub record DemandOne : Type 0 where
   pub why : (b : List ℕ) → let n = planRefusal b false .number in let p = alone (sheetOf b) in
       (n ≡ 0 → CausesListed p (explanationOf b .cut) (whyText b))
       × (NotZero n → (whyText b ≡ programText b) × (explanationOf b .cut ≡ false))
+  -- the program of practice sheets: a seed from 0 to 99,999 as one field closed by byte 10, and number 2, line 1, for
+  -- any other input
+  pub practice-program : ((seed : ℕ) → seed ≤ 99999 → practiceText (seedInput seed) ≡ writeSheet (practiceSheet seed))
+      × ((b : List ℕ) → ((seed : ℕ) → seed ≤ 99999 → b ≡ seedInput seed → ⊥) → practiceText b ≡ refusalText badForm 1)
   -- A sheet planned alone -------------------------------------------------------------------------
 
   -- its rations, and m blowers in every slot; any sound placing may be taken
@@ -146,7 +158,7 @@ pub record DemandOne : Type 0 where
 -- The theorem -------------------------------------------------------------------------------------
 
 pub demand-one : DemandOne
-unfolding planRefusal listedAnswer unlistedAnswer causesAnswer writeRefusal writeRefusalFor writtenOf shortfallOf marksRefusal boundsOf boundsRefusal shortfallFor boundsFor comparedOf compareRefusal refused
+unfolding planRefusal listedAnswer unlistedAnswer causesAnswer writeRefusal writeRefusalFor practiceRefusal writtenOf shortfallOf marksRefusal boundsOf boundsRefusal shortfallFor boundsFor comparedOf compareRefusal refused
 demand-one =
     record {
       read = λ b. (
@@ -162,6 +174,12 @@ demand-one =
           let h = numbered-valueFaults s n agrees in (
             first-of (own ++ fault shortBuffer 0 (ltb (length out) (lineBytes * suc n))) (numbered-one own h shortBuffer (ltb (length out) (lineBytes * suc n)) (omega arith)),
             sheet-buffer (writeRefusal s n numbers (length out)) s out (room-sheet slots blowers wake n numbers (length out)),
+          );
+      practice = λ seed out.
+          let s = practiceSheet seed in
+          let need = lineBytes * suc (length (s .jobs)) in (
+            first-of (fault shortBuffer 0 (ltb (length out) need)) (numbered-one [] (λ _. refl) shortBuffer (ltb (length out) need) (omega arith)),
+            sheet-buffer (practiceRefusal seed (length out)) s out (λ e. omega (arith, write-room [] (λ _. refl) (length out) need e, length-writeSheet s)),
           );
       find = λ b tank. (find-refused b tank, find-none b tank);
       place = λ b tank. (λ h. sym (nowhere-empty b tank (find-refused b tank h)), λ h. sym (nowhere-empty b tank (find-none b tank h)));
@@ -216,6 +234,7 @@ demand-one =
         λ z. let c = why-causes b z in causes-listed (alone (sheetOf b)) _ (c .1) (whyText b) (why-front b ∙ c .0),
         λ n. let c = why-refused b n in (why-front b ∙ c .0 ∙ sym (program-front b), c .1),
       );
+      practice-program = (practice-taken, practice-refused);
       alone-is = alone-is;
       held-is = held-alone;
     }

@@ -12,12 +12,16 @@ use mathlib.Core.Path.{_≡_, refl, sym, subst, _∙_}
 use mathlib.Core.Logic.{_⊎_, _↔_}
 use mathlib.Core.Bool.{false, _||_}
 use mathlib.Core.List.{List, []}
-use Prim.Native.Nat.{ℕ, _*_, _≤_}
+use Prim.Native.Nat.{ℕ, suc, _*_, _≤_}
 use native.Mathlib.Omega.{arith}
-use lib.ListN.{length}
+use lib.ListN.{length, take}
+use Rattle.line.specs.Layout.{lineBytes}
 use Rattle.checks.specs.Refusals.{noPlacing}
 use Rattle.checks.specs.Sheet.{Sheet, sheetOf}
 use Rattle.checks.specs.Checks.{faults}
+use Rattle.sheet.specs.Calls.{writtenOf, bufferAfter}
+use Rattle.practice.specs.Practice.{practiceSheet, practiceRefusal}
+use Rattle.practice.specs.SeedLaws.{seedInput}
 use Rattle.plan_lines.specs.Sizes.{planBytes, placingWords, causesBytes}
 use Rattle.planning.specs.Problem.{alone, MayPlace, listingOf, wordsFor}
 use Rattle.planning.specs.Planning.{planRefusalFor, planRefusal, shortPlan, shortPlacing, listedAnswer, unlistedAnswer, listingAfter, placingAfter, comparedOf}
@@ -30,11 +34,12 @@ use Rattle.program.specs.Program.{explanationOf}
 use Rattle.program.specs.Theorems.{program-writes, program-front}
 use Rattle.records.specs.declared.Ration.{Ration}
 use Rattle.records.specs.Records.{recordSheet, recordFaults}
-use Rattle.demands.specs.Answers.{programText, whyText}
+use Rattle.demands.specs.Answers.{programText, whyText, practiceText}
 use Rattle.demands.specs.Outcome.{AloneIs, NoneSound, PlannedOrHeld, Outcome, placingIn, SamePlacing}
 use Rattle.demands.specs.Causes.{CausesShown}
 use Rattle.demands.specs.AnswerLaws.{bytes-in-range, records-in-range, alone-is}
 use Rattle.demands.specs.OutcomeLaws.{written-listing, outcome-of, marks-of, high-alone}
+use Rattle.demands.specs.PracticeLaws.{of-practice, practice-written, practice-taken}
 use Rattle.demands.specs.ComparisonLaws.{comparison-held-iff}
 use Rattle.demands.specs.CausesLaws.{shown-causes, planned, call-shown, why-front, why-causes, why-refused}
 
@@ -65,6 +70,12 @@ pub record DemandThree : Type 0 where
       × (a .number ≡ 0 → (listing : List ℕ) → planBytes ≤ length listing → let q = planRefusal b (shortPlan listing) in
       CausesShown p (stretchPart (linesOf (written (listedAnswer q (listingOf p)) (listingAfter q (listingOf p) listing)))) (a .cut)
       (entriesIn (writtenCauses a (causesAfter r (endingsOf p) out))))
+  -- a practice sheet is planned for the values drawn: it is held exactly where these have no sound placing
+  pub practice : (seed : ℕ) (out listing : List ℕ) → let s = practiceSheet seed in let p = alone s in
+      lineBytes * suc (length (s .jobs)) ≤ length out → planBytes ≤ length listing →
+      let w = practiceRefusal seed (length out) in let b = take (writtenOf w s .length) (bufferAfter w s out) in
+      let r = planRefusal b (shortPlan listing) in let a = listedAnswer r (listingOf p) in
+      Outcome p (a .number) (written a (listingAfter r (listingOf p) listing))
   -- a comparison is held exactly where its first sheet is well-formed and has no sound placing, or the first can be
   -- planned and that holds of the second
   pub compare : (a b : List ℕ) → let p = alone (sheetOf a) in let q = alone (sheetOf b) in
@@ -87,6 +98,9 @@ pub record DemandThree : Type 0 where
   pub why : (b : List ℕ) → let p = alone (sheetOf b) in faults b ≡ [] →
       (planRefusal b false .number ≡ 0 → CausesShown p (stretchPart (linesOf (programText b))) (explanationOf b .cut) (entriesIn (whyText b)))
       × (planRefusal b false .number ≡ noPlacing → Outcome p (planRefusal b false .number) (whyText b))
+  -- what the program of practice sheets writes for a seed, planned by the planner
+  pub practice-program : (seed : ℕ) → seed ≤ 99999 → let b = practiceText (seedInput seed) in
+      Outcome (alone (practiceSheet seed)) (planRefusal b false .number) (programText b)
   -- A sheet planned alone -------------------------------------------------------------------------
 
   -- its rations, and m blowers in every slot; any sound placing may be taken
@@ -97,14 +111,32 @@ pub record DemandThree : Type 0 where
 
 -- The theorem -------------------------------------------------------------------------------------
 
+-- what `plan` gives for bytes b with the values of t
+abbrev PlanOutcome : (listing b : List ℕ) → Sheet → Type 0
+PlanOutcome listing b t =
+    let p = alone t in
+    let r = planRefusal b (shortPlan listing) in
+    let a = listedAnswer r (listingOf p) in
+    Outcome p (a .number) (written a (listingAfter r (listingOf p) listing))
+
+plan-outcome : (b listing : List ℕ) → faults b ≡ [] → planBytes ≤ length listing → PlanOutcome listing b (sheetOf b)
+unfolding planRefusal listedAnswer
+plan-outcome b listing formed l =
+    let g = bytes-in-range b formed in
+    let e = room-plan listing l in
+    outcome-of formed _ g (shortPlan listing) e _ (written-listing formed _ g (shortPlan listing) e listing)
+
+program-outcome : (b : List ℕ) → faults b ≡ [] → Outcome (alone (sheetOf b)) (planRefusal b false .number) (programText b)
+unfolding planRefusal
+program-outcome b formed =
+    let g = bytes-in-range b formed in
+    outcome-of formed _ g false refl (programText b) (program-front b ∙ program-writes b formed [] ∙ written-listing formed _ g false refl [])
+
 pub demand-three : DemandThree
 unfolding planRefusal listedAnswer unlistedAnswer causesAnswer
 demand-three =
     record {
-      plan = λ b listing formed l.
-          let g = bytes-in-range b formed in
-          let e = room-plan listing l in
-          outcome-of formed _ g (shortPlan listing) e _ (written-listing formed _ g (shortPlan listing) e listing);
+      plan = plan-outcome;
       plan-both = λ b listing placing formed l k.
           let g = bytes-in-range b formed in
           let short = shortPlan listing || shortPlacing placing in
@@ -129,6 +161,10 @@ demand-three =
             outcome-of formed p g (shortCauses out) e _ refl .planned-or-held,
             λ z listing k. call-shown formed p g refl (shortCauses out) e z out _ (written-listing formed p g (shortPlan listing) (room-plan listing k) listing),
           );
+      practice = λ seed out listing l k.
+          of-practice seed (PlanOutcome listing) (λ b f. plan-outcome b listing f k) (practice-written seed out l);
+      practice-program = λ seed h.
+          of-practice seed (λ b t. Outcome (alone t) (planRefusal b false .number) (programText b)) program-outcome (practice-taken seed h);
       compare = comparison-held-iff;
       plan-rations = λ slots blowers wake rations listing formed l.
           let g = records-in-range (recordSheet slots blowers wake rations) formed in
@@ -140,9 +176,7 @@ demand-three =
           let e = neither (shortPlan listing) (shortPlacing placing) (room-plan listing l) (room-placing placing k) in
           let w = written-listing formed _ g short e listing in
           (outcome-of formed _ g short e _ w, marks-of formed _ g short e _ placing w);
-      program = λ b formed.
-          let g = bytes-in-range b formed in
-          outcome-of formed _ g false refl (programText b) (program-front b ∙ program-writes b formed [] ∙ written-listing formed _ g false refl []);
+      program = program-outcome;
       why = λ b formed.
           let p = alone (sheetOf b) in
           let g = bytes-in-range b formed in

@@ -11,13 +11,15 @@ use mathlib.Core.Path.{_≡_, refl, sym, ap, subst, _∙_}
 use mathlib.Core.Logic.{_↔_}
 use mathlib.Core.Bool.{true, false, _||_}
 use mathlib.Core.List.{List, []}
-use Prim.Native.Nat.{ℕ, _*_, _≤_}
+use Prim.Native.Nat.{ℕ, suc, _*_, _≤_}
 use lib.ListN.{length, take}
-use Rattle.line.specs.Layout.{fields}
+use Rattle.line.specs.Layout.{fields, lineBytes}
 use Rattle.checks.specs.Sheet.{Sheet, sheetOf, numbersOf, sheetFrom}
 use Rattle.checks.specs.Checks.{faults}
 use Rattle.sheet.specs.Calls.{readingOf, writeRefusal, writeRefusalFor, writtenOf, bufferAfter}
 use Rattle.common.specs.Buffers.{over}
+use Rattle.practice.specs.Practice.{practiceSheet, practiceRefusal}
+use Rattle.practice.specs.SeedLaws.{seedInput}
 use Rattle.schedules.specs.Demands.{demandsOf}
 use Rattle.method.specs.Method.{dayBounds}
 use Rattle.method.specs.Worded.{settleAllWorded, runsWorded, boundsWorded}
@@ -34,14 +36,15 @@ use Rattle.program.specs.Program.{explanationOf}
 use Rattle.program.specs.Theorems.{program-writes, program-front}
 use Rattle.records.specs.declared.Ration.{Ration}
 use Rattle.records.specs.Records.{recordSheet, recordFaults}
-use Rattle.demands.specs.Answers.{programText, whyText}
+use Rattle.demands.specs.Answers.{programText, whyText, practiceText, ValuesRead}
 use Rattle.demands.specs.Outcome.{AloneIs, placingIn}
 use Rattle.demands.specs.ByMethod.{HasPlacing, settled, runsOf, ChosenByMethod, ByMethod}
 use Rattle.demands.specs.Causes.{CausesByMethod}
 use Rattle.demands.specs.AnswerLaws.{bytes-in-range, records-in-range, alone-is}
 use Rattle.demands.specs.ByMethodLaws.{number-is, listed-by-method, marked-by-method, both-planned, same-day, as-worded, runs-worded}
 use Rattle.demands.specs.CausesLaws.{by-method-causes, call-by-method, why-front, why-causes}
-use Rattle.demands.specs.RoundTripLaws.{read-again, rations-read-again, values-again, rations-again}
+use Rattle.demands.specs.PracticeLaws.{of-practice, practice-number, practice-written, practice-taken}
+use Rattle.demands.specs.RoundTripLaws.{values-read, read-again, rations-read-again, values-again, rations-again}
 
 pub record DemandTwo : Type 0 where
   -- Planning a sheet's bytes ----------------------------------------------------------------------
@@ -78,6 +81,9 @@ pub record DemandTwo : Type 0 where
 
   pub program : (b : List ℕ) → let p = alone (sheetOf b) in faults b ≡ [] → HasPlacing p → ByMethod p (linesOf (programText b))
   pub why : (b : List ℕ) → let p = alone (sheetOf b) in faults b ≡ [] → HasPlacing p → CausesByMethod p (explanationOf b .cut) (entriesIn (whyText b))
+  -- what the program of practice sheets writes for a seed
+  pub practice-program : (seed : ℕ) → seed ≤ 99999 → let p = alone (practiceSheet seed) in let b = practiceText (seedInput seed) in
+      (faults b ≡ []) × ValuesRead (practiceSheet seed) (readingOf b) × (HasPlacing p → ByMethod p (linesOf (programText b)))
   -- A sheet planned alone: the method as document 01 words it -----------------------------------------
 
   -- its rations, and m blowers in every slot; any sound placing will do
@@ -106,17 +112,45 @@ pub record DemandTwo : Type 0 where
       writtenOf r s .number ≡ 0
       → (v .number ≡ 0) × (v .slots ≡ slots) × (v .blowers ≡ blowers) × (v .wake ≡ wake) × (v .rations ≡ length rations)
       × (take (fields * length rations) (v .numbers) ≡ numbersOf (s .jobs))
+  -- a practice sheet passes the checks 1 to 9 and 13, and is read again to the values drawn; so a plan of it is the
+  -- method's for these values
+  pub practice : (seed : ℕ) (out : List ℕ) → let s = practiceSheet seed in lineBytes * suc (length (s .jobs)) ≤ length out →
+      let w = practiceRefusal seed (length out) in let b = take (writtenOf w s .length) (bufferAfter w s out) in
+      (writtenOf w s .number ≡ 0) × (faults b ≡ []) × ValuesRead s (readingOf b)
+  pub practice-plan : (seed : ℕ) (out listing : List ℕ) → let s = practiceSheet seed in let p = alone s in
+      lineBytes * suc (length (s .jobs)) ≤ length out → HasPlacing p → planBytes ≤ length listing →
+      let w = practiceRefusal seed (length out) in let b = take (writtenOf w s .length) (bufferAfter w s out) in
+      let r = planRefusal b (shortPlan listing) in let a = listedAnswer r (listingOf p) in
+      (a .number ≡ 0) × ByMethod p (linesOf (written a (listingAfter r (listingOf p) listing)))
 
 -- The theorem -------------------------------------------------------------------------------------
+
+-- what `plan` gives for bytes b with the values of t
+abbrev PlanByMethod : (listing b : List ℕ) → Sheet → Type 0
+PlanByMethod listing b t =
+    let p = alone t in
+    let r = planRefusal b (shortPlan listing) in
+    let a = listedAnswer r (listingOf p) in
+    (a .number ≡ 0) × ByMethod p (linesOf (written a (listingAfter r (listingOf p) listing)))
+
+plan-by-method : (b listing : List ℕ) → faults b ≡ [] → HasPlacing (alone (sheetOf b)) → planBytes ≤ length listing → PlanByMethod listing b (sheetOf b)
+unfolding planRefusal listedAnswer
+plan-by-method b listing formed has l =
+    let g = bytes-in-range b formed in
+    let e = room-plan listing l in
+    (number-is formed _ g has (shortPlan listing) e, listed-by-method formed _ g has (shortPlan listing) e listing)
+
+program-by-method : (b : List ℕ) → faults b ≡ [] → HasPlacing (alone (sheetOf b)) → ByMethod (alone (sheetOf b)) (linesOf (programText b))
+unfolding planRefusal
+program-by-method b formed has =
+    subst (λ x. ByMethod (alone (sheetOf b)) (linesOf x)) (sym (program-front b ∙ program-writes b formed []))
+    (listed-by-method formed _ (bytes-in-range b formed) has false refl [])
 
 pub demand-two : DemandTwo
 unfolding planRefusal listedAnswer unlistedAnswer causesAnswer comparedOf
 demand-two =
     record {
-      plan = λ b listing formed has l.
-          let g = bytes-in-range b formed in
-          let e = room-plan listing l in
-          (number-is formed _ g has (shortPlan listing) e, listed-by-method formed _ g has (shortPlan listing) e listing);
+      plan = plan-by-method;
       plan-both = λ b listing placing formed has l k.
           let g = bytes-in-range b formed in
           let short = shortPlan listing || shortPlacing placing in
@@ -144,18 +178,25 @@ demand-two =
           let short = shortPlan listing || shortPlacing placing in
           let e = neither (shortPlan listing) (shortPlacing placing) (room-plan listing l) (room-placing placing k) in
           (number-is formed _ g has short e, listed-by-method formed _ g has short e listing, marked-by-method formed _ g has short e placing);
-      program = λ b formed has.
-          subst (λ x. ByMethod (alone (sheetOf b)) (linesOf x)) (sym (program-front b ∙ program-writes b formed []))
-          (listed-by-method formed _ (bytes-in-range b formed) has false refl []);
+      program = program-by-method;
       why = λ b formed has.
           let g = bytes-in-range b formed in
           let c = why-causes b (number-is formed _ g has false refl) in
           subst (λ x. CausesByMethod (alone (sheetOf b)) x (entriesIn (whyText b))) (sym (c .1))
           (by-method-causes _ g refl (may-planned _ g (has .0) (has .1)) (whyText b) (why-front b ∙ c .0));
+      practice-program = λ seed h.
+          let e = practice-taken seed h in
+          let read = of-practice seed (λ b t. (faults b ≡ []) × ValuesRead t (readingOf b)) (λ b f. (f, values-read b f)) e in
+          (read .0, read .1, of-practice seed (λ b t. HasPlacing (alone t) → ByMethod (alone t) (linesOf (programText b))) program-by-method e);
       alone-is = alone-is;
       worded = λ s. (as-worded s, runs-worded s);
       read-write = read-again;
       write-read = values-again;
       read-write-rations = rations-read-again;
       write-rations-read = rations-again;
+      practice = λ seed out l.
+          let read = of-practice seed (λ b t. (faults b ≡ []) × ValuesRead t (readingOf b)) (λ b f. (f, values-read b f)) (practice-written seed out l) in
+          (practice-number seed out l, read .0, read .1);
+      practice-plan = λ seed out listing l has k.
+          of-practice seed (λ b t. HasPlacing (alone t) → PlanByMethod listing b t) (λ b f has. plan-by-method b listing f has k) (practice-written seed out l) has;
     }

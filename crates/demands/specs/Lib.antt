@@ -18,3 +18,4 @@ pub mod ByMethodLaws
 pub mod RoundTripLaws
 pub mod ComparisonLaws
 pub mod CausesLaws
+pub mod PracticeLaws

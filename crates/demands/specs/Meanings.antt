@@ -21,7 +21,9 @@ use Rattle.method.specs.Keeping.{stretches}
 use Rattle.method.specs.Endings.{inOrder, endings}
 use Rattle.cause_lines.specs.Entries.{entryLines, entryText, entriesText, fitting, causesText, isCut}
 use Rattle.causes.specs.CauseCalls.{endingsOf}
-use Rattle.program.specs.Program.{output, explanation}
+use Rattle.checks.specs.Sheet.{writeJob, writeSheet}
+use Rattle.practice.specs.Practice.{nextSeed, seedAfter, draw, drawnJob, practiceJob, practiceSheet, faultySeed, seedIn}
+use Rattle.program.specs.Program.{output, explanation, seedOutput}
 
 -- the method, feedings, stretches, energy and the charge
 unfoldable pub plans : Unit {0}
@@ -42,3 +44,8 @@ placings = tt
 unfoldable pub causes : Unit {0}
 unfolding listings excessSet someAbove crossed lowest obstacle stretches inOrder endings entryLines entryText entriesText fitting causesText isCut endingsOf explanation
 causes = tt
+
+-- from a seed to its practice sheet
+unfoldable pub practices : Unit {0}
+unfolding listings nextSeed seedAfter draw drawnJob practiceJob practiceSheet writeJob writeSheet faultySeed seedIn seedOutput
+practices = tt

@@ -23,7 +23,22 @@ use Rattle.checks.specs.WellFormedLaws.{wellFormed-faults, valueFaults-wellForm
 use Rattle.sheet.specs.Theorems.{read-written, written-read, read-written-again, written-read-again}
 use Rattle.records.specs.declared.Ration.{Ration}
 use Rattle.records.specs.Records.{jobOf, recordSheet, recordFaults}
+use Rattle.demands.specs.Answers.{ValuesRead}
 use Rattle.demands.specs.AnswerLaws.{numbered-one}
+
+-- a sheet that is accepted, and its values
+pub values-read : (b : List ℕ) → faults b ≡ [] → ValuesRead (sheetOf b) (readingOf b)
+unfolding accepted
+values-read b f =
+    let e = readingOf-accepted b f in
+    record {
+      number = ap (λ (x : Reading). x .number) e;
+      slots = ap (λ (x : Reading). x .slots) e;
+      blowers = ap (λ (x : Reading). x .blowers) e;
+      wake = ap (λ (x : Reading). x .wake) e;
+      rations = ap (λ (x : Reading). x .rations) e;
+      numbers = ap (λ (x : Reading). take (fields * x .rations) (x .numbers)) e ∙ rationsRead-accepted (sheetOf b);
+    }
 
 pub read-again : (b out : List ℕ) → faults b ≡ [] → length b ≤ length out → let v = readingOf b in let numbers = take (fields * v .rations) (v .numbers) in
     let s = sheetFrom (v .slots) (v .blowers) (v .wake) numbers in let r = writeRefusal s (v .rations) numbers (length out) in

@@ -1,4 +1,4 @@
-// The calls of `sheet` and `lookup`. A look-up answers where the lines are, because a part of a slice can't be handed
+// The calls of `sheet`, `practice` and `lookup`. A look-up answers where the lines are, because a part of a slice can't be handed
 // over to C.
 use lookup::Part;
 use sheet::Reading;
@@ -9,6 +9,7 @@ ghost use lib.ListN.{length};
 ghost use Rattle.common.specs.Lists.{part};
 ghost use Rattle.sheet.specs.Calls.{readingOf, writeRefusal, writtenOf, bufferAfter};
 ghost use Rattle.checks.specs.Sheet.{sheetFrom};
+ghost use Rattle.practice.specs.Practice.{practiceSheet, practiceRefusal};
 ghost use Rattle.lookup.specs.LookUp.{lookUp, placeOf};
 
 // Reads the bytes of a sheet.
@@ -35,6 +36,15 @@ pub extern "C" fn kiwimound_write(
         (sheetFrom slots blowers wake (now (numbers .entry))) (now (out .entry)) ⌝ }
 {
     sheet::write(slots, blowers, wake, rations, numbers, out)
+}
+
+// Writes the practice sheet of a seed.
+#[no_mangle]
+pub extern "C" fn kiwimound_practice(seed: u32, out: &mut [u8]) -> Written
+    ensures { λ r. ⌜ r ≡ writtenOf (practiceRefusal seed (length (now (out .entry)))) (practiceSheet seed) ⌝ }
+    ensures { λ _. ⌜ now (out .exit) ≡ bufferAfter (practiceRefusal seed (length (now (out .entry)))) (practiceSheet seed) (now (out .entry)) ⌝ }
+{
+    practice::write_practice(seed, out)
 }
 
 // Where the lines of a tank are in the sheet: a part that is empty where the sheet is refused or has no such tank.

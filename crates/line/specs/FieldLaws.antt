@@ -6,6 +6,7 @@ use mathlib.Core.List.{List, [], _∷_, _++_}
 use Prim.Native.Nat.{ℕ, zero, suc, _+_, _-_, _*_, _/_, _%_, _^_, _<_}
 use native.Mathlib.Omega.{arith}
 use native.Mathlib.Numerals.{add-one}
+use native.Mathlib.Nat.{mul-comm, pow-suc, one-le-pow}
 use lib.Dec.{eqb}
 use lib.ListN.{length, getD, take, replicate, length-append}
 use lib.Seq.{take-suc, take-all, length-take-le}
@@ -104,7 +105,7 @@ parse-snoc-value bs b v e = go (blanks bs) refl (sym (parse-snoc bs b) ∙ e)
         record { byte = r .2; before = inr (r .1, r .0) }
 
 -- a list that is not empty, by its last element
-snoc-of : (n : ℕ) (f : List ℕ) → length f ≡ suc n → f ≡ take n f ++ (getD f n 0 ∷ [])
+pub snoc-of : (n : ℕ) (f : List ℕ) → length f ≡ suc n → f ≡ take n f ++ (getD f n 0 ∷ [])
 snoc-of n f l = sym (take-all (suc n) f (omega arith)) ∙ take-suc f n 0 (omega arith)
 
 last-column : (n : ℕ) (f : List ℕ) (v : ℕ) → length f ≡ suc n → parse f ≡ Value v → LastColumn (take n f) (getD f n 0) v
@@ -136,6 +137,28 @@ columns-parse (suc n) f v l e =
     (c .byte)
     (leading-parse n (take (suc n) f) (v / 10) k (columns-parse n (take (suc n) f) (v / 10) k) (c .before))
 
+-- What n + 1 columns hold has at most n + 1 digits.
+pub parse-below : (n : ℕ) (f : List ℕ) (v : ℕ) → length f ≡ suc n → parse f ≡ Value v → v < 10 ^ suc n
+unfolding parse
+parse-below zero f v l e = go (last-column zero f v l e .before)
+  where
+    go : ((v / 10 ≡ 0) × (blanks (take 0 f) ≡ true)) ⊎ ((0 < v / 10) × (parse (take 0 f) ≡ Value (v / 10))) → v < 10 ^ 1
+    go (inl (z, b)) = omega (arith, z)
+    go (inr (p, q)) = absurd (faulty≢value q)
+parse-below (suc n) f v l e =
+    go (last-column (suc n) f v l e .before) (parse-below n (take (suc n) f) (v / 10) (length-take-le (suc n) f (omega arith)))
+  where
+    bs : List ℕ
+    bs = take (suc n) f
+
+    ten : 10 ^ suc (suc n) ≡ 10 * 10 ^ suc n
+    ten = pow-suc 10 (suc n) ∙ mul-comm (10 ^ suc n) 10
+
+    go : ((v / 10 ≡ 0) × (blanks bs ≡ true)) ⊎ ((0 < v / 10) × (parse bs ≡ Value (v / 10)))
+        → (parse bs ≡ Value (v / 10) → v / 10 < 10 ^ suc n) → v < 10 ^ suc (suc n)
+    go (inl (z, b)) h = omega (arith, z, ten, one-le-pow (suc n) 10 (omega arith))
+    go (inr (p, q)) h = omega (arith, ten, h q)
+
 -- The length of a field ----------------------------------------------------------
 
 pub length-leading : (n v : ℕ) → length (leading n v) ≡ n
@@ -156,6 +179,9 @@ parse-writeField v h = parse-columns (width - 1) v h
 pub writeField-parse : (f : List ℕ) (v : ℕ) → length f ≡ width → parse f ≡ Value v → f ≡ writeField v
 unfolding writeField
 writeField-parse f v l e = columns-parse (width - 1) f v l e
+
+pub parse-fits : (f : List ℕ) (v : ℕ) → length f ≡ width → parse f ≡ Value v → v < 10 ^ width
+parse-fits f v l e = parse-below (width - 1) f v l e
 
 pub length-writeField : (v : ℕ) → length (writeField v) ≡ width
 unfolding writeField

@@ -8,6 +8,7 @@ use lib.Dec.{eqb}
 use lib.ListN.{length, length-map}
 use borrow.Author.Tests.{eq-eqb, ne-eqb}
 use Rattle.common.specs.Lists.{range, count, any, flatMap}
+use Rattle.common.specs.ListLaws.{length-from}
 use Rattle.schedules.specs.Slots.{Slots, has}
 use Rattle.plan_lines.specs.Lines.{line, membersFrom, memberLines}
 use Rattle.planning.specs.ReadListing.{slotSet}
@@ -45,11 +46,7 @@ members-set s (b ∷ q) =
 -- The set of the slots that are listed for a set of the day's slots is that set.
 pub length-slotSet : (slots : ℕ) (ts : List ℕ) → length (slotSet slots ts) ≡ slots
 unfolding slotSet
-length-slotSet slots ts = length-map (range 1 slots) (λ t. any (eqb t) ts) ∙ length-range 1 slots
-  where
-    length-range : (a n : ℕ) → length (range a n) ≡ n
-    length-range a zero = refl
-    length-range a (suc n) = ap suc (length-range (suc a) n)
+length-slotSet slots ts = length-from (λ t. any (eqb t) ts) 1 slots
 
 pub slotSet-members : (slots : ℕ) (q : Slots) → length q ≡ slots → slotSet slots (membersFrom 1 q) ≡ q
 unfolding slotSet

@@ -5,3 +5,4 @@ pub mod Theorems
 -- What the functions ensure
 pub mod OutputLaws
 pub mod ExplanationLaws
+pub mod MadeSheetLaws

@@ -1,8 +1,9 @@
--- The program's theorems: for a well-formed sheet it writes what a planning call writes, its output fits the plan
--- buffer, an input longer than any sheet is refused, and a refusal's text is read back. Assumes nothing.
+-- The programs' theorems. For a well-formed sheet the planner writes what a planning call writes, its output fits the
+-- plan buffer, an input longer than any sheet is refused, and a refusal's text is read back. The practice sheets' program
+-- takes every seed that a field can hold, and nothing else. Assumes nothing.
 use mathlib.Core.Path.{_≡_, refl, sym, subst}
 use mathlib.Core.Logic.{_⊎_, inl, inr}
-use mathlib.Core.Bool.{Bool, true, false, _||_}
+use mathlib.Core.Bool.{Bool, true, false, _||_, cond}
 use mathlib.Core.List.{List, [], _∷_, List·Memᴰ, List·Memᴰ·cases-cons, List·Memᴰ·not-nil}
 use Prim.Native.Nat.{ℕ, _^_, _≤_, _<_}
 use native.Mathlib.Omega.{arith}
@@ -12,7 +13,8 @@ use lib.Seq.{take-append-seam}
 use borrow.Author.Tests.{lt-ltb}
 use Rattle.line.specs.Layout.{width, lineBytes}
 use Rattle.checks.specs.Limits.{maxBytes}
-use Rattle.checks.specs.Sheet.{sheetOf}
+use Rattle.checks.specs.Refusals.{badForm}
+use Rattle.checks.specs.Sheet.{sheetOf, writeSheet}
 use Rattle.checks.specs.Checks.{firstRefusal, outside, lengthFaults, faults}
 use Rattle.common.specs.Buffers.{padded}
 use Rattle.plan_lines.specs.Sizes.{planBytes}
@@ -24,7 +26,9 @@ use Rattle.planning.specs.WrittenLaws.{number-planned, number-held, writes-plan
 use Rattle.planning.specs.ReadListing.{written}
 use Rattle.planning.specs.ReadLaws.{FitsLine, FitLines}
 use Rattle.planning.specs.Theorems.{ReadsAs, reads-as}
-use Rattle.program.specs.Program.{output, outputOf}
+use Rattle.practice.specs.Practice.{faultySeed, seedIn, practiceSheet}
+use Rattle.practice.specs.SeedLaws.{seedInput, seed-fine, seed-is, seed-there}
+use Rattle.program.specs.Program.{output, outputOf, seedOutput, madeSheetOf}
 use Rattle.program.specs.OutputLaws.{length-output}
 
 module _ (b : List ℕ) (accepted : faults b ≡ []) where
@@ -75,3 +79,26 @@ refusal-read-back number l f g = reads-as (refusalText number l) heldWord (line 
         only : (x ≡ line number l 0 0) ⊎ List·Memᴰ x [] → FitsLine x
         only (inl e) = subst FitsLine (sym e) (record { a = f; b = g; c = omega arith; d = omega arith })
         only (inr k) = absurd (List·Memᴰ·not-nil k)
+
+-- Practice sheets ---------------------------------------------------------------------------
+
+-- The program writes the first bytes of what `make_sheet` gives: they are the output.
+pub made-front : (b : List ℕ) → take (madeSheetOf b .length) (madeSheetOf b .bytes) ≡ seedOutput b
+unfolding madeSheetOf padded
+made-front b = take-append-seam (seedOutput b) _
+
+-- It takes each seed that a field can hold, ..
+pub seed-taken : (seed : ℕ) → seed < 10 ^ width → seedOutput (seedInput seed) ≡ writeSheet (practiceSheet seed)
+unfolding seedOutput
+seed-taken seed h = rw (seed-fine seed h, seed-is seed h)
+
+-- .. and refuses any other input.
+pub seed-refused : (b : List ℕ) → ((seed : ℕ) → seed < 10 ^ width → b ≡ seedInput seed → ⊥) → seedOutput b ≡ refusalText badForm 1
+unfolding seedOutput
+seed-refused b none = go (faultySeed b) refl
+  where
+    go : (x : Bool) → faultySeed b ≡ x → cond x (refusalText badForm 1) (writeSheet (practiceSheet (seedIn b))) ≡ refusalText badForm 1
+    go true e = refl
+    go false e =
+        let s = seed-there b e in
+        absurd (none (s .0) (s .1) (s .2))

@@ -1,13 +1,16 @@
-// What the programs write for their input: `planner` a sheet's plan, `why` the causes of its stretches.
+// What the programs write for their input: `planner` a sheet's plan, `why` the causes of its stretches, `practice_sheet`
+// the sheet of a seed.
 //
 // The outputs are stated in specs/Program.antt. Only programs name this crate: a refusal's text is the programs' alone,
 // and a call for outsiders writes no byte on any refusal but 12.
+use checks::refusals::BAD_FORM;
 use checks::refusals::NO_PLACING;
 use listing::opening;
 use plan_lines::sizes::CAUSES_BYTES;
 use plan_lines::sizes::PLAN_BYTES;
+use practice::sizes::PRACTICE_BYTES;
 ghost use mathlib.Core.Path.{_≡_};
-ghost use Rattle.program.specs.Program.{outputOf, explanationOf};
+ghost use Rattle.program.specs.Program.{outputOf, explanationOf, madeSheetOf};
 
 // The planner's whole output for an input, in the first `length` bytes; the others are 0.
 pub struct Output {
@@ -71,5 +74,27 @@ pub fn explain(b: &[u8]) -> Explanation
         bytes,
         length,
         cut: false,
+    }
+}
+
+// The whole output of `practice_sheet` for an input, in the first `length` bytes; the others are 0.
+pub struct MadeSheet {
+    pub bytes: [u8; PRACTICE_BYTES],
+    pub length: usize,
+}
+
+// The practice sheet of the seed that the input has, or the text of refusal 2 for any other input.
+pub fn make_sheet(b: &[u8]) -> MadeSheet
+    ensures { λ r. ⌜ r ≡ madeSheetOf (now (b .entry)) ⌝ }
+{
+    let mut bytes = [0u8; PRACTICE_BYTES];
+    if practice::seed_faulty(b) {
+        let length = opening::put_refusal(&mut bytes, BAD_FORM, 1);
+        return MadeSheet { bytes, length };
+    }
+    let written = practice::write_practice(line::field_number(b, 0), &mut bytes);
+    MadeSheet {
+        bytes,
+        length: written.length,
     }
 }

@@ -6,12 +6,12 @@ use native.Mathlib.Numerals.{add-one}
 use native.Mathlib.Omega.{arith}
 use lib.ListN.{length, getD, take, drop, set, replicate, length-take, length-map, length-append, length-replicate}
 use lib.Seq.{take-suc, take-at, sets, sets-eq, drop-append-add, length-take-le}
-use Rattle.common.specs.ListLaws.{flatMap-append, drop-replicate}
+use Rattle.common.specs.ListLaws.{flatMap-append}
 use Rattle.line.specs.Layout.{fields}
-use Rattle.checks.specs.Sheet.{numbersOf, jobsOf, sheetFrom}
-use Rattle.common.specs.Buffers.{padded}
+use Rattle.checks.specs.Sheet.{jobNumbers, numbersOf, jobsOf, sheetFrom}
+use Rattle.common.specs.Buffers.{padded, putAt}
 use Rattle.checks.specs.NumbersLaws.{length-numbersOf, jobsOf-numbersOf}
-use Rattle.common.specs.BufferLaws.{length-padded}
+use Rattle.common.specs.BufferLaws.{length-padded, set-four, putAt-padded}
 use Rattle.records.specs.declared.Ration.{Ration}
 use Rattle.records.specs.Records.{jobOf, recordSheet, takenMost}
 use Rattle.records.specs.Flat.{flatOf, flatSheet, IsFlat, emptyFlat, added, noRation, takenTo}
@@ -23,59 +23,35 @@ unfolding takenTo added emptyFlat
 count-takenTo zero rs = refl
 count-takenTo (suc i) rs = add-one (takenTo i rs .count) ∙ ap suc (count-takenTo i rs)
 
--- the numbers of a record
-abbrev numbersAt : Ration → List ℕ
-numbersAt r = r .tank ∷ r .first ∷ r .last ∷ r .volume ∷ []
-
 abbrev front : List Ration → ℕ → List ℕ
 front rs i = numbersOf (map jobOf (take i rs))
 
 length-front : (rs : List Ration) (i : ℕ) → i ≤ length rs → length (front rs i) ≡ fields * i
 length-front rs i h = length-numbersOf (map jobOf (take i rs)) ∙ ap (λ k. fields * k) (length-map (take i rs) jobOf ∙ length-take-le i rs h)
 
-front-suc : (rs : List Ration) (i : ℕ) → i < length rs → front rs (suc i) ≡ front rs i ++ numbersAt (getD rs i noRation)
+front-suc : (rs : List Ration) (i : ℕ) → i < length rs → front rs (suc i) ≡ front rs i ++ jobNumbers (jobOf (getD rs i noRation))
 unfolding numbersOf jobOf
 front-suc rs i h =
     ap (λ l. numbersOf (map jobOf l)) (take-suc rs i noRation h) ∙ ap numbersOf (map-append jobOf (take i rs) (getD rs i noRation ∷ []))
     ∙ flatMap-append _ (map jobOf (take i rs)) (jobOf (getD rs i noRation) ∷ [])
-
--- four stores are one run of stores
-stores : (l : List ℕ) (at a b c d : ℕ) → set (set (set (set l at a) (at + 1) b) (at + 2) c) (at + 3) d ≡ sets l at (a ∷ b ∷ c ∷ d ∷ [])
-stores l at a b c d =
-    let e : at + 1 ≡ suc at = omega arith in
-    let f : at + 2 ≡ suc (suc at) = omega arith in
-    let g : at + 3 ≡ suc (suc (suc at)) = omega arith in
-    rw (e, f, g)
-
--- a run of stores just after xs, in zeros
-stores-after : (n : ℕ) (xs vs : List ℕ) → length xs + length vs ≤ n → sets (padded n xs) (length xs) vs ≡ padded n (xs ++ vs)
-unfolding padded
-stores-after n xs vs h =
-    sets-eq vs (xs ++ zeros) (length xs) (omega (arith, length-append xs zeros, length-replicate {A = ℕ} (n - length xs) 0))
-    ∙ ap (λ a. a ++ vs ++ drop (length xs + length vs) (xs ++ zeros)) (take-at xs zeros (length xs) refl) ∙ ap (λ b. xs ++ vs ++ b) behind
-  where
-    zeros : List ℕ
-    zeros = replicate (n - length xs) 0
-
-    left : n - length xs - length vs ≡ n - length (xs ++ vs)
-    left = omega (arith, length-append xs vs)
-
-    behind : drop (length xs + length vs) (xs ++ zeros) ≡ replicate (n - length (xs ++ vs)) 0
-    behind = drop-append-add xs zeros (length vs) ∙ drop-replicate (length vs) (n - length xs) 0 ∙ ap (λ k. replicate k 0) left
 
 -- the four stores of `added`
 abbrev stored : List ℕ → ℕ → Ration → List ℕ
 stored l at r = set (set (set (set l at (r .tank)) (at + 1) (r .first)) (at + 2) (r .last)) (at + 3) (r .volume)
 
 numbers-takenTo : (i : ℕ) (rs : List Ration) → i ≤ length rs → i ≤ takenMost → takenTo i rs .numbers ≡ padded (fields * takenMost) (front rs i)
-unfolding takenTo added emptyFlat padded numbersOf
+unfolding takenTo added emptyFlat padded numbersOf jobOf
 numbers-takenTo zero rs h k = refl
 numbers-takenTo (suc i) rs h k =
     let r = getD rs i noRation in
     let l = padded (fields * takenMost) (front rs i) in
     let e = length-front rs i (omega arith) in
-    ap₂ (λ x n. stored x (fields * n) r) (numbers-takenTo i rs (omega arith) (omega arith)) (count-takenTo i rs) ∙ stores l (fields * i) (r .tank) (r .first) (r .last) (r .volume)
-    ∙ ap (λ at. sets l at (numbersAt r)) (sym e) ∙ stores-after (fields * takenMost) (front rs i) (numbersAt r) (omega (arith, e)) ∙ ap (padded (fields * takenMost)) (sym (front-suc rs i h))
+    let m = length-padded (fields * takenMost) (front rs i) (omega (arith, e)) in
+    ap₂ (λ x n. stored x (fields * n) r) (numbers-takenTo i rs (omega arith) (omega arith)) (count-takenTo i rs)
+    ∙ set-four (fields * i) (r .tank) (r .first) (r .last) (r .volume) l (omega (arith, m))
+    ∙ ap (λ at. putAt at (jobNumbers (jobOf r)) l) (sym e)
+    ∙ putAt-padded (fields * takenMost) (front rs i) (jobNumbers (jobOf r))
+    ∙ ap (padded (fields * takenMost)) (sym (front-suc rs i h))
 
 -- ---- all that are taken
 

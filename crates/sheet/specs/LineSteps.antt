@@ -10,13 +10,12 @@ use lib.ListN.{length, getD, take, drop, set, length-drop}
 use lib.Seq.{take-add, take-take, drop-at, drop-drop, length-take-le, getD-take, getD-drop}
 use borrow.Author.Tests.{eq-eqb, ne-eqb}
 use Rattle.common.specs.Buffers.{putAt}
-use Rattle.common.specs.BufferLaws.{putAt-append, set-putAt, length-putAt}
+use Rattle.common.specs.BufferLaws.{set-four}
 use Rattle.line.specs.Layout.{width, fields, lineBytes, newline}
 use Rattle.line.specs.Field.{parse, numberOf, isFaulty}
 use Rattle.line.specs.Line.{fieldAt, valueAt, faultyFrom, faultyLine}
-use Rattle.checks.specs.Sheet.{lineAt}
+use Rattle.checks.specs.Sheet.{lineAt, jobAt, jobNumbers}
 use Rattle.checks.specs.Checks.{firstFaulty}
-use Rattle.sheet.specs.Parts.{numbersAt}
 
 -- ---- places in the sheet
 
@@ -116,21 +115,8 @@ module _ (s : List ℕ) (i n : ℕ) where
 
 -- ---- four numbers that are put
 
-pub put-numbers : (at a b c d : ℕ) (old : List ℕ) → at + fields ≤ length old
-    → set (set (set (set old at a) (at + 1) b) (at + 2) c) (at + 3) d ≡ putAt at (a ∷ b ∷ c ∷ d ∷ []) old
-put-numbers at a b c d old h =
-    ap (λ l. set (set (set l (at + 1) b) (at + 2) c) (at + 3) d) (set-putAt at a old (omega arith))
-    ∙ ap (λ l. set (set l (at + 2) c) (at + 3) d) (more 1 b (a ∷ []) refl (omega arith))
-    ∙ ap (λ l. set l (at + 3) d) (more 2 c (a ∷ b ∷ []) refl (omega arith))
-    ∙ more 3 d (a ∷ b ∷ c ∷ []) refl (omega arith)
-  where
-    more : (k x : ℕ) (xs : List ℕ) → length xs ≡ k → at + k < length old → set (putAt at xs old) (at + k) x ≡ putAt at (xs ++ (x ∷ [])) old
-    more k x xs e l =
-        set-putAt (at + k) x (putAt at xs old) (omega (arith, length-putAt at xs old (omega (arith, e))))
-        ∙ putAt-append at k xs (x ∷ []) old e (omega arith)
-
 pub put-numbers-at : (s : List ℕ) (line at a b c d : ℕ) (old : List ℕ) → at + fields ≤ length old
     → a ≡ valueAt (lineAt s line) 0 → b ≡ valueAt (lineAt s line) 1 → c ≡ valueAt (lineAt s line) 2 → d ≡ valueAt (lineAt s line) 3
-    → set (set (set (set old at a) (at + 1) b) (at + 2) c) (at + 3) d ≡ putAt at (numbersAt s line) old
-unfolding numbersAt
-put-numbers-at s line at a b c d old h p q r t = put-numbers at a b c d old h ∙ rw (p, q, r, t)
+    → set (set (set (set old at a) (at + 1) b) (at + 2) c) (at + 3) d ≡ putAt at (jobNumbers (jobAt s line)) old
+unfolding jobAt
+put-numbers-at s line at a b c d old h p q r t = set-four at a b c d old h ∙ rw (p, q, r, t)

@@ -10,10 +10,6 @@ use Rattle.checks.specs.declared.Refusal.{Refusal}
 use Rattle.checks.specs.Sheet.{lineAt}
 use Rattle.checks.specs.Checks.{firstRefusal, lengthFaults, formFaults}
 
--- the four numbers of a line
-unfoldable pub numbersAt : List ℕ → ℕ → List ℕ
-numbersAt s i = valueAt (lineAt s i) 0 ∷ valueAt (lineAt s i) 1 ∷ valueAt (lineAt s i) 2 ∷ valueAt (lineAt s i) 3 ∷ []
-
 -- the line is there, and the flat numbers have room for its four
 pub record CanPutNumbers (s : List ℕ) (line : ℕ) (numbers : List ℕ) (at : ℕ) : Type 0 where
   pub there : lineBytes * line + lineBytes ≤ length s

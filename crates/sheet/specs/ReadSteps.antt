@@ -1,17 +1,15 @@
--- How reading a sheet goes on: the form, the numbers of its rations, and the answer. Assumes nothing.
+-- How reading a sheet goes on: the form, and the answer. Assumes nothing.
 use mathlib.Core.Path.{_≡_, refl, sym, ap, _∙_}
 use mathlib.Core.Bool.{Bool, true, false, _||_, not, cond}
-use mathlib.Core.List.{List, [], _∷_, _++_, map, append-assoc, map-append}
+use mathlib.Core.List.{List, [], _++_, map, append-assoc}
 use Prim.Native.Nat.{ℕ, zero, suc, _+_, _-_, _*_, _/_, _%_, _≤_, _<_}
-use native.Mathlib.Numerals.{add-one}
 use native.Mathlib.Omega.{arith}
 use lib.Dec.{ltb, eqb}
-use lib.ListN.{length, take, drop, replicate, length-map}
-use lib.Seq.{take-at, drop-append-add}
+use lib.ListN.{length, take}
 use borrow.Author.Tests.{lt-ltb, le-ltb, eq-eqb, ne-eqb, eqb-true}
 use Rattle.common.specs.Lists.{range}
-use Rattle.common.specs.ListLaws.{range-snoc, flatMap-append, drop-replicate}
-use Rattle.common.specs.Buffers.{padded, putAt}
+use Rattle.common.specs.Buffers.{padded}
+use Rattle.common.specs.FillLaws.{take-padded}
 use Rattle.line.specs.Layout.{fields, lineBytes}
 use Rattle.line.specs.Line.{valueAt, faultyLine}
 use Rattle.checks.specs.declared.Refusal.{Refusal}
@@ -20,11 +18,11 @@ use Rattle.checks.specs.Refusals.{badLength, badForm}
 use Rattle.checks.specs.Sheet.{Sheet, lineCount, lineAt, jobAt, sheetOf, numbersOf, jobsOf}
 use Rattle.checks.specs.Checks.{firstRefusal, outside, lengthFaults, firstFaulty, formFaults, headFaults, jobsFaults, valueFaults, faults}
 use Rattle.sheet.specs.Calls.{accepted, refused, readingFrom, readingOf}
-use Rattle.checks.specs.NumbersLaws.{length-numbersOf, jobsOf-numbersOf}
+use Rattle.checks.specs.NumbersLaws.{jobsOf-numbersOf, numbersTo, length-numbersTo}
 use Rattle.checks.specs.SheetLaws.{length-jobs-sheetOf}
 use Rattle.checks.specs.FaultLaws.{Numbered, numbered-fault, numbered-before, numbered-headFaults}
 use Rattle.checks.specs.RangeLaws.{HeadInRange, inRange-headFaults}
-use Rattle.sheet.specs.Parts.{FormChecked, numbersAt}
+use Rattle.sheet.specs.Parts.{FormChecked}
 use Rattle.checks.specs.Parts.{head}
 use Rattle.checks.specs.CheckSteps.{first-left, first-right}
 
@@ -84,56 +82,6 @@ module _ (b : List ℕ) where
               least = λ x. absurd (omega arith);
               most = λ x. absurd (omega arith);
             }
-
--- ---- the numbers of the rations
-
--- of the rations on the n lines after the head line
-abbrev pub filled : List ℕ → ℕ → List ℕ
-filled b n = numbersOf (map (jobAt b) (range 1 n))
-
-pub length-filled : (b : List ℕ) (n : ℕ) → length (filled b n) ≡ fields * n
-length-filled b n = length-numbersOf (map (jobAt b) (range 1 n)) ∙ ap (λ k. fields * k) (length-map (range 1 n) (jobAt b) ∙ length-range 1 n)
-  where
-    length-range : (i k : ℕ) → length (range i k) ≡ k
-    length-range i zero = refl
-    length-range i (suc k) = ap suc (length-range (suc i) k)
-
-pub fill-begin : (b : List ℕ) → replicate (fields * maxRations) 0 ≡ padded (fields * maxRations) (filled b 0)
-unfolding padded numbersOf
-fill-begin b = refl
-
-filled-next : (b : List ℕ) (i : ℕ) → filled b (i + 1) ≡ filled b i ++ numbersAt b (i + 1)
-unfolding numbersOf jobAt numbersAt
-filled-next b i =
-    ap (filled b) (add-one i) ∙ ap (λ r. numbersOf (map (jobAt b) r)) (range-snoc 1 i) ∙ ap numbersOf (map-append (jobAt b) (range 1 i) ((1 + i) ∷ []))
-    ∙ flatMap-append _ (map (jobAt b) (range 1 i)) (jobAt b (1 + i) ∷ []) ∙ ap (λ k. filled b i ++ numbersAt b k) (swap i)
-  where
-    swap : (i : ℕ) → 1 + i ≡ i + 1
-    swap i = omega arith
-
-pub fill-next : (b : List ℕ) (i : ℕ) → i < maxRations
-    → putAt (fields * i) (numbersAt b (i + 1)) (padded (fields * maxRations) (filled b i)) ≡ padded (fields * maxRations) (filled b (i + 1))
-unfolding putAt padded numbersAt
-fill-next b i h =
-    ap (λ l. l ++ (numbersAt b (i + 1) ++ drop (fields * i + fields) (filled b i ++ zeros))) (take-at (filled b i) zeros (fields * i) (length-filled b i))
-    ∙ ap (λ l. filled b i ++ (numbersAt b (i + 1) ++ l)) behind
-    ∙ sym (append-assoc (filled b i) (numbersAt b (i + 1)) (replicate (fields * maxRations - length (filled b (i + 1))) 0))
-    ∙ ap (λ l. l ++ replicate (fields * maxRations - length (filled b (i + 1))) 0) (sym (filled-next b i))
-  where
-    zeros : List ℕ
-    zeros = replicate (fields * maxRations - length (filled b i)) 0
-
-    behind : drop (fields * i + fields) (filled b i ++ zeros) ≡ replicate (fields * maxRations - length (filled b (i + 1))) 0
-    behind =
-        ap (λ k. drop (k + fields) (filled b i ++ zeros)) (sym (length-filled b i)) ∙ drop-append-add (filled b i) zeros fields
-        ∙ drop-replicate fields (fields * maxRations - length (filled b i)) 0 ∙ ap (λ k. replicate k 0) left
-      where
-        left : fields * maxRations - length (filled b i) - fields ≡ fields * maxRations - length (filled b (i + 1))
-        left = omega (arith, length-filled b i, length-filled b (i + 1))
-
-pub take-padded : (b : List ℕ) (n : ℕ) → take (fields * n) (padded (fields * maxRations) (filled b n)) ≡ filled b n
-unfolding padded
-take-padded b n = take-at (filled b n) _ (fields * n) (length-filled b n)
 
 -- ---- the answer
 
@@ -217,12 +165,12 @@ module _ (b : List ℕ) where
           unfolding valueFaults
           head-left = form-passed ∙ first-right (headFaults (sheetOf b) announced (eqb announced (lineCount b - 1))) rest (sym same-head ∙ none)
 
-          module _ (n : ℕ) (c : n ≡ lineCount b - 1) (numbers : List ℕ) (g : numbers ≡ padded (fields * maxRations) (filled b n)) (r : Refusal)
+          module _ (n : ℕ) (c : n ≡ lineCount b - 1) (numbers : List ℕ) (g : numbers ≡ padded (fields * maxRations) (numbersTo (jobAt b) n)) (r : Refusal)
               (q : r ≡ firstRefusal (jobsFaults slots 2 0 0 (jobsOf (take (fields * n) numbers)))) where
             same-jobs : r ≡ firstRefusal rest
             unfolding sheetOf
             same-jobs =
-                q ∙ ap (λ xs. firstRefusal (jobsFaults slots 2 0 0 (jobsOf xs))) (ap (take (fields * n)) g ∙ take-padded b n)
+                q ∙ ap (λ xs. firstRefusal (jobsFaults slots 2 0 0 (jobsOf xs))) (ap (take (fields * n)) g ∙ take-padded (fields * maxRations) (numbersTo (jobAt b) n) (fields * n) (length-numbersTo (jobAt b) n))
                 ∙ ap (λ js. firstRefusal (jobsFaults slots 2 0 0 js)) (jobsOf-numbersOf (map (jobAt b) (range 1 n)))
                 ∙ ap (λ k. firstRefusal (jobsFaults slots 2 0 0 (map (jobAt b) (range 1 k)))) c
                 ∙ ap (λ k. firstRefusal (jobsFaults k 2 0 0 (map (jobAt b) (range 1 (lineCount b - 1))))) s₀
@@ -243,4 +191,4 @@ module _ (b : List ℕ) where
                 count = head-agrees ∙ sym (length-jobs-sheetOf b)
 
                 flat : numbers ≡ padded (fields * maxRations) (numbersOf (sheetOf b .jobs))
-                flat = g ∙ ap (λ m. padded (fields * maxRations) (filled b m)) c
+                flat = g ∙ ap (λ m. padded (fields * maxRations) (numbersTo (jobAt b) m)) c

@@ -9,7 +9,8 @@ ghost use lib.ListN.{length};
 ghost use Rattle.common.specs.Buffers.{putAt};
 ghost use Rattle.line.specs.Layout.{lineBytes};
 ghost use Rattle.checks.specs.Checks.{firstFaulty};
-ghost use Rattle.sheet.specs.Parts.{numbersAt, CanPutNumbers};
+ghost use Rattle.checks.specs.Sheet.{jobAt, jobNumbers};
+ghost use Rattle.sheet.specs.Parts.{CanPutNumbers};
 
 // The first of the lines that holds a faulty field, counted from 1; 0 where none does. A missing closing byte counts as one.
 pub fn first_faulty(s: &[u8], lines: usize) -> usize
@@ -40,7 +41,7 @@ pub fn first_faulty(s: &[u8], lines: usize) -> usize
 // Puts the four numbers of a line into flat numbers, from a place on.
 pub fn put_numbers(s: &[u8], line: usize, numbers: &mut [u32; 256], at: usize)
     requires { ⌜ CanPutNumbers (now s) line (now numbers) at ⌝ }
-    ensures { λ _. ⌜ now (numbers .exit) ≡ putAt at (numbersAt (now (s .entry)) line) (now (numbers .entry)) ⌝ }
+    ensures { λ _. ⌜ now (numbers .exit) ≡ putAt at (jobNumbers (jobAt (now (s .entry)) line)) (now (numbers .entry)) ⌝ }
 {
     let from = LINE * line;
     let tank = line::field_number(s, from);

@@ -8,6 +8,7 @@ mod growth;
 mod lemon;
 mod planning;
 mod plot;
+mod practice;
 mod questions;
 mod stats;
 
@@ -20,9 +21,11 @@ const USAGE: &str = "usage: benchmark planning SHEETS SLOW-SHEETS [LEMON-PROGRAM
        benchmark growth SHEETS PLOT
        benchmark once library|plain|placing|both|causes KIND SHEETS
        benchmark shortfall library|plain|by-slot KIND SHEETS
+       benchmark practice practice|write|read RATIONS SEEDS
 SLOW-SHEETS is how many of the sheets the slower implementations get. PLOT is the file that the
 plot is written to. `once` plans each sheet once, by the library into a plan buffer, a placing
-buffer or both, or lists its causes, and `shortfall` asks the shortfall of each once, for
+buffer or both, or lists its causes, `shortfall` asks the shortfall of each once, and `practice`
+makes, writes or reads the practice sheets of the first SEEDS seeds that draw RATIONS rations, for
 instructions to be counted.";
 
 fn answer(words: &[&str]) -> Option<Result<(), String>> {
@@ -42,6 +45,10 @@ fn answer(words: &[&str]) -> Option<Result<(), String>> {
         }
         ["shortfall", program, kind, count] => {
             questions::once(program, sheets::Kind::named(kind)?, count.parse().ok()?)?;
+            Ok(())
+        }
+        ["practice", call, rations, count] => {
+            practice::once(call, rations.parse().ok()?, count.parse().ok()?)?;
             Ok(())
         }
         _ => return None,

@@ -1,5 +1,6 @@
 //! The static libraries against the reference implementation: every call, with buffers of
-//! every length that matters, on many sheets of all kinds.
+//! every length that matters, on many sheets of all kinds; and the practice sheets of all
+//! seeds of a range, with their plans.
 
 mod calls;
 mod causes;
@@ -7,12 +8,15 @@ mod expected;
 mod form;
 mod lent;
 mod planning;
+mod practice;
 mod questions;
 mod reading;
+mod seeds;
 mod values;
 
-use calls::Buffers;
+use calls::{Buffers, Checked};
 use expected::Expected;
+use practice::{check_practice, seed_at, LAST_OF_PROGRAM};
 use sheets::mixture::{draws_at, kind_at, KINDS};
 use std::process::ExitCode;
 use std::time::Instant;
@@ -51,18 +55,9 @@ impl Tally {
     }
 }
 
-fn main() -> ExitCode {
-    let words: Vec<String> = std::env::args().skip(1).collect();
-    let numbers: Option<Vec<usize>> = words.iter().map(|word| word.parse().ok()).collect();
-    let (count, from) = match numbers.as_deref() {
-        Some([]) => (1_000_000, 0),
-        Some([count]) => (*count, 0),
-        Some([count, from]) => (*count, *from),
-        _ => {
-            eprintln!("usage: differential [COUNT [FROM]]");
-            return ExitCode::FAILURE;
-        }
-    };
+/// Makes every call on so many sheets of the mixture, from a place on, and writes the practice
+/// sheet of a seed beside each.
+fn compare(count: usize, from: usize) -> Checked {
     let start = Instant::now();
     let mut tally = Tally {
         kinds: [[0; 14]; KINDS.len()],
@@ -79,14 +74,17 @@ fn main() -> ExitCode {
             Ok(Some(changed)) => tally.changed[changed.outcome() as usize] += 1,
             Ok(None) => {}
             Err(message) => {
-                println!("sheet {place}, {}: {message}", KINDS[kind].name);
-                match std::fs::write(DIFFERENCE, &expected.bytes) {
-                    Ok(()) => println!("the sheet is in {DIFFERENCE}"),
-                    Err(error) => println!("the sheet can't be written: {error}"),
-                }
-                return ExitCode::FAILURE;
+                let name = KINDS[kind].name;
+                let written = match std::fs::write(DIFFERENCE, &expected.bytes) {
+                    Ok(()) => format!("the sheet is in {DIFFERENCE}"),
+                    Err(error) => format!("the sheet can't be written: {error}"),
+                };
+                return Err(format!("sheet {place}, {name}: {message}\n{written}"));
             }
         }
+        let seed = seed_at(place, &mut draws);
+        check_practice(seed, &mut draws, &mut buffers)
+            .map_err(|message| format!("seed {seed}: {message}"))?;
         let number = expected.outcome() as usize;
         tally.kinds[kind][number] += 1;
         if expected.is_full() {
@@ -96,6 +94,38 @@ fn main() -> ExitCode {
     }
     tally.print();
     let seconds = start.elapsed().as_secs_f64();
-    println!("{count} sheets, no difference, {seconds:.0} s");
-    ExitCode::SUCCESS
+    println!("{count} sheets and as many practice sheets, no difference, {seconds:.0} s");
+    Ok(())
+}
+
+const USAGE: &str = "usage: differential [COUNT [FROM]]
+       differential practice [FIRST LAST]
+FIRST and LAST are seeds of 32 bits, 0 and 99999 if none are given.";
+
+/// Runs what the words ask for, if they ask for anything.
+fn run(words: &[&str]) -> Option<Checked> {
+    Some(match *words {
+        [] => compare(1_000_000, 0),
+        ["practice"] => seeds::run(0..=LAST_OF_PROGRAM),
+        ["practice", first, last] => seeds::run(first.parse().ok()?..=last.parse().ok()?),
+        [count] => compare(count.parse().ok()?, 0),
+        [count, from] => compare(count.parse().ok()?, from.parse().ok()?),
+        _ => return None,
+    })
+}
+
+fn main() -> ExitCode {
+    let arguments: Vec<String> = std::env::args().skip(1).collect();
+    let words: Vec<&str> = arguments.iter().map(String::as_str).collect();
+    match run(&words) {
+        None => {
+            eprintln!("{USAGE}");
+            ExitCode::FAILURE
+        }
+        Some(Ok(())) => ExitCode::SUCCESS,
+        Some(Err(message)) => {
+            println!("{message}");
+            ExitCode::FAILURE
+        }
+    }
 }

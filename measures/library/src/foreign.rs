@@ -112,5 +112,6 @@ extern "C" {
         out: *mut u8,
         size: usize,
     ) -> Written;
+    pub fn kiwimound_practice(seed: u32, out: *mut u8, size: usize) -> Written;
     pub fn kiwimound_find(b: *const u8, n: usize, tank: u32) -> Part;
 }

@@ -76,6 +76,11 @@ pub fn write(head: [u32; 4], numbers: &[u32], out: &mut [u8]) -> Written {
     }
 }
 
+/// Writes the practice sheet of a seed.
+pub fn practice(seed: u32, out: &mut [u8]) -> Written {
+    unsafe { foreign::kiwimound_practice(seed, out.as_mut_ptr(), out.len()) }
+}
+
 /// Where the lines of a tank stand in the sheet.
 pub fn find(sheet: &[u8], tank: u32) -> Part {
     unsafe { foreign::kiwimound_find(sheet.as_ptr(), sheet.len(), tank) }

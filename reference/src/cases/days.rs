@@ -130,7 +130,8 @@ fn digested(sheet: &[u8]) -> String {
     format!("O {number} {line} {} {}\n", output.len(), digest(&buffer))
 }
 
-fn planned(sheet: &[u8]) -> String {
+/// `D number line length`, the digest of the listing and that of the placing buffer.
+pub fn planned(sheet: &[u8]) -> String {
     let (mut listing, mut placing) = (lent_buffer(PLAN_BUFFER), lent_words(PLACING_WORDS));
     let (number, line, length) = plan(sheet, Some(&mut listing), Some(&mut placing));
     let (listing, placing) = (digest(&listing[..length]), digest_words(&placing));

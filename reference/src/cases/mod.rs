@@ -7,6 +7,7 @@ pub mod days;
 mod meals;
 pub mod placing;
 pub mod plan;
+pub mod practice;
 mod shares;
 pub mod sheet;
 mod sheets;

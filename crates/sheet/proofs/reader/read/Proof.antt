@@ -7,7 +7,9 @@ use Rattle.line.specs.Layout.{width, fields, lineBytes}
 use Rattle.checks.specs.Limits.{maxRations}
 use Rattle.checks.specs.Sheet.{lineCount}
 use Rattle.sheet.specs.LineSteps.{value-place}
-use Rattle.sheet.specs.ReadSteps.{filled, length-filled, form-refused, head-refused, head-passed, head-agrees, jobs-refused, read-accepted}
+use Rattle.checks.specs.Sheet.{jobAt}
+use Rattle.checks.specs.NumbersLaws.{numbersTo, length-numbersTo}
+use Rattle.sheet.specs.ReadSteps.{form-refused, head-refused, head-passed, head-agrees, jobs-refused, read-accepted}
 use native.Mathlib.Omega.{arith}
 use borrow.Author.Needs.{needs}
 use Rattle.sheet.proofs.reader.read.Statement.{statement}
@@ -102,7 +104,7 @@ rations-refusal-requires c κs =
     (c .before .before .before .before .before .before .field-number3 .ensures ∙ value-place (c .before .before .before .before .before .before .before .before .before .before .before .before .before .args .b .now) 0 (c .before .before .before .before .before .before .before .before .before .before .before .form-refusal .ensures .least (c .before .before .before .before .before .before .before .before .before .if1 .left)) 2 (width * 2) (omega arith) (omega arith))
     (c .before .before .before .before .before .field-number4 .ensures ∙ value-place (c .before .before .before .before .before .before .before .before .before .before .before .before .before .args .b .now) 0 (c .before .before .before .before .before .before .before .before .before .before .before .form-refusal .ensures .least (c .before .before .before .before .before .before .before .before .before .if1 .left)) 3 (width * 3) (omega arith) (omega arith))
     (c .before .before .before .before .head-refusal .result) (c .before .before .before .before .head-refusal .ensures) (c .before .before .if2 .left) in
-    (omega (arith, p .rations), omega (arith, p .rations, ap length (c .before .ration-numbers .ensures), length-padded (fields * maxRations) (filled (c .before .before .before .before .before .before .before .before .before .before .before .before .before .args .b .now) (length (c .before .before .before .before .before .before .before .before .before .before .before .before .before .args .b .now) / lineBytes - 1)) (omega (arith, p .rations, length-filled (c .before .before .before .before .before .before .before .before .before .before .before .before .before .args .b .now) (length (c .before .before .before .before .before .before .before .before .before .before .before .before .before .args .b .now) / lineBytes - 1)))))
+    (omega (arith, p .rations), omega (arith, p .rations, ap length (c .before .ration-numbers .ensures), length-padded (fields * maxRations) (numbersTo (jobAt (c .before .before .before .before .before .before .before .before .before .before .before .before .before .args .b .now)) (length (c .before .before .before .before .before .before .before .before .before .before .before .before .before .args .b .now) / lineBytes - 1)) (omega (arith, p .rations, length-numbersTo (jobAt (c .before .before .before .before .before .before .before .before .before .before .before .before .before .args .b .now)) (length (c .before .before .before .before .before .before .before .before .before .before .before .before .before .args .b .now) / lineBytes - 1)))))
 
 refuse-requires-3 : tie.Need-refuse-requires-3
 refuse-requires-3 c κs = search needs

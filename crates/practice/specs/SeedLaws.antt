@@ -1,0 +1,88 @@
+-- Which inputs are seeds: those of one field, closed by byte 10, and no others. Assumes nothing.
+use mathlib.Core.Path.{_≡_, refl, sym, ap, ap₂, _∙_}
+use mathlib.Core.Bool.{true, false, _||_, not, true≢false}
+use mathlib.Core.List.{List, [], _∷_, _++_}
+use Prim.Native.Nat.{ℕ, suc, _^_, _<_}
+use native.Mathlib.Omega.{arith}
+use lib.Dec.{eqb}
+use lib.ListN.{length, getD, take, length-append}
+use lib.Seq.{take-at, length-take-le, getD-append-add}
+use borrow.Author.Tests.{eq-eqb, eqb-true, ne-eqb, not-false}
+use Rattle.common.specs.Tests.{or-false}
+use Rattle.line.specs.declared.Field.{Field}
+use Rattle.line.specs.declared.Field.the-variants.{Value, Faulty}
+use Rattle.line.specs.Layout.{width, newline}
+use Rattle.line.specs.Field.{parse, numberOf, isFaulty, writeField}
+use Rattle.line.specs.FieldLaws.{parse-writeField, writeField-parse, parse-fits, length-writeField, snoc-of}
+use Rattle.practice.specs.Practice.{faultySeed, seedIn}
+
+-- Test after test -----------------------------------------------------------------------------
+
+module _ (b : List ℕ) where
+  pub seed-other-length : (length b ≡ suc width → ⊥) → true ≡ faultySeed b
+  unfolding faultySeed
+  seed-other-length n = rw (ne-eqb (length b) (suc width) n)
+
+  module _ (l : length b ≡ suc width) where
+    pub seed-other-field : isFaulty (parse (take width b)) ≡ true → true ≡ faultySeed b
+    unfolding faultySeed
+    seed-other-field e = rw (eq-eqb (length b) (suc width) l, e)
+
+    pub seed-closed : isFaulty (parse (take width b)) ≡ false → not (eqb (getD b width 0) newline) ≡ faultySeed b
+    unfolding faultySeed
+    seed-closed e = rw (eq-eqb (length b) (suc width) l, e)
+
+  pub seed-length : faultySeed b ≡ false → length b ≡ suc width
+  unfolding faultySeed
+  seed-length e = eqb-true (length b) (suc width) (not-false _ (or-false (not (eqb (length b) (suc width))) _ e .0))
+
+-- The input of a seed ------------------------------------------------------------------------
+
+-- the input that has a seed: one field, closed by byte 10
+abbrev pub seedInput : ℕ → List ℕ
+seedInput seed = writeField seed ++ (newline ∷ [])
+
+module _ (seed : ℕ) (h : seed < 10 ^ width) where
+  field : parse (take width (seedInput seed)) ≡ Value seed
+  field = ap parse (take-at (writeField seed) (newline ∷ []) width (length-writeField seed)) ∙ parse-writeField seed h
+
+  pub seed-fine : faultySeed (seedInput seed) ≡ false
+  unfolding faultySeed isFaulty
+  seed-fine = rw (eq-eqb (length (seedInput seed)) (suc width) long, field, eq-eqb (getD (seedInput seed) width 0) newline closing)
+    where
+      long : length (seedInput seed) ≡ suc width
+      long = omega (arith, length-append (writeField seed) (newline ∷ []), length-writeField seed)
+
+      closing : getD (seedInput seed) width 0 ≡ newline
+      closing =
+          ap (λ k. getD (seedInput seed) k 0) (omega (arith, length-writeField seed))
+          ∙ getD-append-add (writeField seed) (newline ∷ []) 0 0
+
+  pub seed-is : seedIn (seedInput seed) ≡ seed
+  unfolding seedIn numberOf
+  seed-is = ap numberOf field
+
+-- an input that is not refused has a seed
+pub seed-there : (b : List ℕ) → faultySeed b ≡ false → (seed : ℕ) × (seed < 10 ^ width) × (b ≡ seedInput seed)
+unfolding faultySeed isFaulty
+seed-there b e = go (parse (take width b)) refl (h .0)
+  where
+    g : (not (eqb (length b) (suc width)) ≡ false) × ((isFaulty (parse (take width b)) || not (eqb (getD b width 0) newline)) ≡ false)
+    g = or-false (not (eqb (length b) (suc width))) _ e
+
+    h : (isFaulty (parse (take width b)) ≡ false) × (not (eqb (getD b width 0) newline) ≡ false)
+    h = or-false (isFaulty (parse (take width b))) _ (g .1)
+
+    long : length b ≡ suc width
+    long = eqb-true (length b) (suc width) (not-false _ (g .0))
+
+    closing : getD b width 0 ≡ newline
+    closing = eqb-true (getD b width 0) newline (not-false _ (h .1))
+
+    front : length (take width b) ≡ width
+    front = length-take-le width b (omega (arith, long))
+
+    go : (f : Field) → parse (take width b) ≡ f → isFaulty f ≡ false → (seed : ℕ) × (seed < 10 ^ width) × (b ≡ seedInput seed)
+    go (Value v) p q =
+        (v, parse-fits (take width b) v front p, snoc-of width b long ∙ ap₂ (λ x y. x ++ (y ∷ [])) (writeField-parse (take width b) v front p) closing)
+    go Faulty p q = absurd (true≢false q)
