@@ -123,8 +123,8 @@ module _ (seed n : ℕ) where
               let d = h .drawn first e in (
                 q ∙ ap (λ z. seedAfter z 3) (d .0) ∙ seedAfter-add first 3 (3 * (i + 1)) ∙ ap (seedAfter first) three,
                 p
-                ∙ ap₂ (λ z l. putAt (fields * i) (jobNumbers (drawnJob z (i + 1))) l) (d .0) (d .1)
-                ∙ numbersTo-next (practiceJob first) i,
+                    ∙ ap₂ (λ z l. putAt (fields * i) (jobNumbers (drawnJob z (i + 1))) l) (d .0) (d .1)
+                    ∙ numbersTo-next (practiceJob first) i,
               );
         }
       where

@@ -36,6 +36,10 @@ module _ (b : List ℕ) where
   unfolding faultySeed
   seed-length e = eqb-true (length b) (suc width) (not-false _ (or-false (not (eqb (length b) (suc width))) _ e .0))
 
+  pub seed-read : {seed : ℕ} → seed ≡ numberOf (parse (take width b)) → seed ≡ seedIn b
+  unfolding seedIn
+  seed-read e = e
+
 -- The input of a seed ------------------------------------------------------------------------
 
 -- the input that has a seed: one field, closed by byte 10

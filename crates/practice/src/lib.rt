@@ -9,9 +9,8 @@ mod rations;
 mod seeds;
 pub mod sizes;
 
-pub use seeds::seed_faulty;
-
 use line::layout::FIELDS;
+pub use seeds::seed_faulty;
 use sheet::Written;
 ghost use mathlib.Core.Path.{_≡_};
 ghost use lib.ListN.{length};

@@ -2,8 +2,8 @@
 // `planning` and `causes`, for comparison with the answers of a second implementation.
 //
 // Operation P makes the call with a buffer as long as the case's number says; the payload holds the seed.
-// Operation T writes what the program writes for the payload, L what it writes for an input as long as the case's number
-// says.
+// Operation T writes what the program writes for the payload, L what it writes for an input as long as the case's
+// number says.
 // Operation S goes through a range of seeds; the payload holds the first and how many there are.
 mod call_case;
 mod input_case;

@@ -1,6 +1,6 @@
-// The sheets of a range of seeds. Of each `S seed number length` and the digest of a whole buffer that the longest sheet
-// fits; then the sheet planned with both buffers, `D number line length`, the digest of the listing and that of the
-// whole placing buffer; then its causes, `C number line length cut` and the digest of the listing.
+// The sheets of a range of seeds. Of each `S seed number length` and the digest of a whole buffer, which has room for
+// the longest; then the sheet planned with both buffers, `D number line length`, the digest of the listing and that of
+// the whole placing buffer; then its causes, `C number line length cut` and the digest of the listing.
 
 fn plan(sheet: &[u8]) {
     let mut room = [0u8; 32303];

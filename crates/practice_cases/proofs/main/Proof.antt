@@ -1,5 +1,5 @@
--- `practice_cases::main` is safe and ends. The loop's invariant: the room keeps its length. The measure is how many cases are left.
--- Assumes nothing.
+-- `practice_cases::main` is safe and ends. The loop's invariant: the room keeps its length. The measure is how many
+-- cases are left. Assumes nothing.
 use mathlib.Core.Path.{_≡_}
 use lib.ListN.{length}
 use borrow.Author.Needs.{needs}

@@ -15,6 +15,9 @@ loop-holds c = search needs
 answer-seed-requires : tie.Need-answer-seed-requires Inv-loop μ-loop
 answer-seed-requires c κs = search needs
 
+wrapping-add-u32-requires : tie.Need-wrapping-add-u32-requires Inv-loop μ-loop
+wrapping-add-u32-requires c κs = search needs
+
 sub-left : tie.Need-sub-left Inv-loop μ-loop
 sub-left c = search needs
 
@@ -29,4 +32,14 @@ returns c = search needs
 
 pub answer-range-spec : {M : Type 1} → statement M
 answer-range-spec =
-    tie.close (tie.spec Inv-loop μ-loop loop-holds answer-seed-requires sub-left loop-less loop-again returns)
+    tie.close
+    (tie.spec
+    Inv-loop
+    μ-loop
+    loop-holds
+    answer-seed-requires
+    wrapping-add-u32-requires
+    sub-left
+    loop-less
+    loop-again
+    returns)
