@@ -5,7 +5,7 @@ use mathlib.Core.Bool.{false}
 use mathlib.Core.List.{List, [], _∷_, _++_, map}
 use Prim.Native.Nat.{ℕ, zero, suc, _+_, _-_, _*_, _^_, _≤_, _<_}
 use native.Mathlib.Omega.{arith}
-use lib.ListN.{length, getD, length-append, length-map}
+use lib.ListN.{length, getD, length-append}
 use Rattle.common.specs.Lists.{range, flatMap}
 use Rattle.common.specs.ListLaws.{length-from}
 use Rattle.common.specs.ChunkLaws.{chunk-zero, chunk-suc, length-chunk, flatMap-chunk}

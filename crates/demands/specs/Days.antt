@@ -288,9 +288,10 @@ cause-days-as-stated = refl
 abbrev noSeed : Answer
 noSeed = bytes (text ("HELD" ∷ "    2    1    0    0" ∷ []))
 
--- Seed 21 by its draws: 16,004, 12,015 and 13,002 for the head line, 29,177, 24,895 and 21,216 for tank 1, 25,919, 57,622
--- and 12,504 for tank 2. Seed 9: 15,699, 6,219 and 64,350, which 65 divides, so that there is no ration. Then inputs that
--- are no seed: a leading zero, a column less and one more, a blank after the digits, a second line, nothing at all.
+-- Seed 21 by its draws: 16,004, 12,015 and 13,002 for the head line, 29,177, 24,895 and 21,216 for tank 1, 25,919,
+-- 57,622 and 12,504 for tank 2. Seed 9: 15,699, 6,219 and 64,350, which 65 divides, so that there is no ration. Then
+-- inputs that are no seed: a leading zero, a column less and one more, a blank after the digits, a second line, nothing
+-- at all.
 abbrev pub practiceDays : List Day
 practiceDays =
     day (practiceFor ("   21" ∷ []))

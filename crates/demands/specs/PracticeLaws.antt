@@ -1,12 +1,12 @@
--- A practice sheet that was written has the bytes of the sheet drawn, so that what holds of a sheet's bytes holds of it.
--- Assumes nothing.
-use mathlib.Core.Path.{_≡_, refl, sym, ap, subst₂, _∙_}
+-- A practice sheet that was written has the bytes of the sheet drawn, so that what holds of a sheet's bytes holds of
+-- it. Assumes nothing.
+use mathlib.Core.Path.{_≡_, sym, ap, subst₂, _∙_}
 use mathlib.Core.List.{List, []}
-use Prim.Native.Nat.{ℕ, suc, _*_, _^_, _≤_, _<_}
+use Prim.Native.Nat.{ℕ, suc, _*_, _≤_}
 use native.Mathlib.Omega.{arith}
 use lib.ListN.{length, take}
 use Rattle.common.specs.BufferLaws.{take-over}
-use Rattle.line.specs.Layout.{width, lineBytes}
+use Rattle.line.specs.Layout.{lineBytes}
 use Rattle.checks.specs.Refusals.{badForm}
 use Rattle.checks.specs.Sheet.{Sheet, writeSheet, sheetOf}
 use Rattle.checks.specs.Checks.{faults}

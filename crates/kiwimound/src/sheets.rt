@@ -1,5 +1,5 @@
-// The calls of `sheet`, `practice` and `lookup`. A look-up answers where the lines are, because a part of a slice can't be handed
-// over to C.
+// The calls of `sheet`, `practice` and `lookup`. A look-up answers where the lines are, because a part of a slice can't
+// be handed over to C.
 use lookup::Part;
 use sheet::Reading;
 use sheet::Written;

@@ -13,7 +13,7 @@ use Rattle.sheet.specs.Calls.{writeRefusalFor}
 
 -- Draws ----------------------------------------------------------------------
 
--- a draw sets s to this: what passes 32 bits is dropped ..
+-- a draw sets s to this; what passes 32 bits is dropped
 unfoldable pub nextSeed : ℕ → ℕ
 nextSeed s = (1664525 * s + 1013904223) % 2 ^ 32
 
@@ -22,7 +22,7 @@ unfoldable pub seedAfter : ℕ → ℕ → ℕ
 seedAfter s zero = s
 seedAfter s (suc k) = nextSeed (seedAfter s k)
 
--- .. and it yields s divided by 65,536, rounded down: what draw 1, 2, .. from s yields
+-- what draw k from s yields, k from 1: s after it, divided by 65,536 and rounded down
 unfoldable pub draw : ℕ → ℕ → ℕ
 draw s k = seedAfter s k / 65536
 

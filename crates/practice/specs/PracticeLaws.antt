@@ -25,7 +25,7 @@ use Rattle.sheet.specs.declared.Written.{Written}
 use Rattle.sheet.specs.Calls.{writeRefusal, writeRefusalFor}
 use Rattle.sheet.specs.OwnChecks.{Wrote}
 use Rattle.practice.specs.Parts.{RationsFrom}
-use Rattle.practice.specs.DrawLaws.{seedAfter-add}
+use Rattle.practice.specs.DrawLaws.{seedAfter-add, last-within}
 use Rattle.practice.specs.Practice.{seedAfter, draw, drawnJob, practiceJob, practiceSheet, practiceBytes, practiceRefusal}
 
 -- In range ---------------------------------------------------------------------------
@@ -35,15 +35,13 @@ unfolding drawnJob
 drawn-in-range s tank before until h k =
     let first : ℕ = 1 + draw s 1 % 96 in
     let last : ℕ = first + draw s 2 % (97 - first) in
-    let f : draw s 1 % 96 < 96 = mod-lt (draw s 1) (omega arith) in
-    let l : draw s 2 % (97 - first) < 97 - first = mod-lt (draw s 2) (omega arith) in
     let v : draw s 3 % (last + 1 - first) < last + 1 - first = mod-lt (draw s 3) (omega arith) in
     record {
       tank = record { ge = omega arith; le = omega arith };
       rising = omega arith;
       release = omega arith;
       window = omega arith;
-      deadline = omega arith;
+      deadline = last-within (draw s 1) (draw s 2);
       volume = record { ge = omega arith; le = omega arith };
       meal = λ e. absurd (omega arith);
     }

@@ -8,7 +8,7 @@ const MULTIPLIER: u32 = 1664525;
 
 const INCREMENT: u32 = 1013904223;
 
-// Sets the seed to the next one, and yields its upper 16 bits.
+// Sets the seed to the next one, and yields that divided by 65,536.
 pub fn draw(seed: &mut u32) -> u32
     ensures { λ r. ⌜ r ≡ nextSeed (now (seed .entry)) / 65536 ⌝ }
     ensures { λ _. ⌜ now (seed .exit) ≡ nextSeed (now (seed .entry)) ⌝ }

@@ -1,6 +1,6 @@
 -- The programs' theorems. For a well-formed sheet the planner writes what a planning call writes, its output fits the
--- plan buffer, an input longer than any sheet is refused, and a refusal's text is read back. The practice sheets' program
--- takes every seed that a field can hold, and nothing else. Assumes nothing.
+-- plan buffer, an input longer than any sheet is refused, and a refusal's text is read back. The practice sheets'
+-- program takes every seed that a field can hold, and nothing else. Assumes nothing.
 use mathlib.Core.Path.{_≡_, refl, sym, subst}
 use mathlib.Core.Logic.{_⊎_, inl, inr}
 use mathlib.Core.Bool.{Bool, true, false, _||_, cond}

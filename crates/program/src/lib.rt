@@ -1,5 +1,5 @@
-// What the programs write for their input: `planner` a sheet's plan, `why` the causes of its stretches, `practice_sheet`
-// the sheet of a seed.
+// What the programs write for their input: `planner` a sheet's plan, `why` the causes of its stretches, and
+// `practice_sheet` the sheet of a seed.
 //
 // The outputs are stated in specs/Program.antt. Only programs name this crate: a refusal's text is the programs' alone,
 // and a call for outsiders writes no byte on any refusal but 12.

@@ -4,8 +4,8 @@ use mathlib.Core.List.{List, [], _∷_, _++_, map, map-append}
 use Prim.Native.Nat.{ℕ, zero, suc, min, _+_, _-_, _*_, _≤_, _<_}
 use native.Mathlib.Numerals.{add-one}
 use native.Mathlib.Omega.{arith}
-use lib.ListN.{length, getD, take, drop, set, replicate, length-take, length-map, length-append, length-replicate}
-use lib.Seq.{take-suc, take-at, sets, sets-eq, drop-append-add, length-take-le}
+use lib.ListN.{length, getD, take, set, length-take, length-map}
+use lib.Seq.{take-suc, take-at, length-take-le}
 use Rattle.common.specs.ListLaws.{flatMap-append}
 use Rattle.line.specs.Layout.{fields}
 use Rattle.checks.specs.Sheet.{jobNumbers, numbersOf, jobsOf, sheetFrom}

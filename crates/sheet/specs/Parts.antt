@@ -1,13 +1,11 @@
 -- What the functions within the crate require and ensure. Definitions only.
 use mathlib.Core.Path.{_≡_}
-use mathlib.Core.List.{List, [], _∷_, _++_}
+use mathlib.Core.List.{List, _++_}
 use Prim.Native.Nat.{ℕ, _+_, _*_, _≤_}
 use lib.ListN.{length}
 use Rattle.line.specs.Layout.{fields, lineBytes}
-use Rattle.line.specs.Line.{valueAt}
 use Rattle.checks.specs.Limits.{maxRations, maxBytes}
 use Rattle.checks.specs.declared.Refusal.{Refusal}
-use Rattle.checks.specs.Sheet.{lineAt}
 use Rattle.checks.specs.Checks.{firstRefusal, lengthFaults, formFaults}
 
 -- the line is there, and the flat numbers have room for its four

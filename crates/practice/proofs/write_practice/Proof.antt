@@ -1,10 +1,9 @@
 -- `practice::write_practice` meets its contract: the numbers drawn are those of the sheet. Assumes nothing.
 use mathlib.Core.Path.{refl}
-use Prim.Native.Nat.{_%_, _+_}
+use Prim.Native.Nat.{_%_}
 use Rattle.practice.specs.Practice.{practiceJob}
 use Rattle.practice.specs.DrawLaws.{three-seeds, three-drawn}
 use Rattle.practice.specs.PracticeLaws.{front-numbers, drawn-written}
-use native.Mathlib.Omega.{arith}
 use borrow.Author.Needs.{needs}
 use Rattle.practice.proofs.write_practice.Statement.{statement}
 use Rattle.practice.proofs.write_practice.Tie as tie

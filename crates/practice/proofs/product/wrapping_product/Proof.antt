@@ -1,5 +1,5 @@
--- `practice::product::wrapping_product` meets its contract: what is summed and what is left make up the product. Assumes
--- nothing.
+-- `practice::product::wrapping_product` meets its contract: what is summed and what is left make up the product.
+-- Assumes nothing.
 use mathlib.Core.Path.{_∙_}
 use mathlib.Core.Logic.{⊎-map}
 use Rattle.practice.specs.ProductLaws.{Product, product-begin, product-next, product-end}

@@ -2,7 +2,6 @@
 use Prim.Native.Nat.{_-_}
 use Rattle.practice.specs.PracticeLaws.{Drawing, drawing-begin, drawing-next, drawing-end}
 use native.Mathlib.Omega.{arith}
-use borrow.Author.Needs.{needs}
 use Rattle.practice.proofs.rations.ration_numbers.Statement.{statement}
 use Rattle.practice.proofs.rations.ration_numbers.Tie as tie
 
