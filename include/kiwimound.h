@@ -155,10 +155,10 @@ kiwimound_written kiwimound_write(uint32_t slots, uint32_t blowers, uint32_t wak
  * KIWIMOUND_PRACTICE_BYTES are enough for every seed. Number 0 writes the sheet at the front of `out`; bytes after it
  * keep their values. Every practice sheet passes the checks 1 to 9 and 13; some are held, and planning shows why.
  *
- * Each draw sets s, at first the seed, to 1,664,525 * s + 1,013,904,223 with what passes 32 bits dropped, and yields
- * the new s divided by 65,536, rounded down. In this order: slots are 96, blowers 1 + draw % 8, wake draw % 201, rations
- * draw % 65; then for each of the tanks 1, 2, .. the first slot is 1 + draw % 96, the last one
- * first + draw % (97 - first), and the volume 1 + draw % (last - first + 1). */
+ * With s, a uint32_t that is the seed at first, a draw is (s = 1664525u * s + 1013904223u) / 65536u. There are 96 slots.
+ * One draw after another gives: blowers, 1 + draw % 8; wake, draw % 201; rations, draw % 65; then for each tank from 1 on
+ * its first slot, 1 + draw % 96, its last slot, first + draw % (97 - first), and its volume,
+ * 1 + draw % (last - first + 1). */
 kiwimound_written kiwimound_practice(uint32_t seed, uint8_t *out, size_t out_length);
 
 /* Where the lines of a tank are in the sheet, all of them as one part, closing bytes 10 included: the length is

@@ -129,10 +129,8 @@ impl Sheet {
     /// The practice sheet of a seed: a day to load a cabinet with before there are fish. The same seed always makes the
     /// same sheet.
     ///
-    /// Each draw sets s, at first the seed, to 1,664,525 × s + 1,013,904,223 with what passes 32 bits dropped, and
-    /// yields the new s divided by 65,536, rounded down. In this order: slots are 96, blowers 1 + draw mod 8, the wake
-    /// cost draw mod 201, rations draw mod 65; then for each of the tanks 1, 2, .. the first slot is 1 + draw mod 96,
-    /// the last one first + draw mod (97 − first), and the volume 1 + draw mod the window's length.
+    /// The sheet has 96 slots; its other numbers are drawn one after another, as `kiwimound_practice` in the C header
+    /// says.
     ///
     /// Every such sheet passes the checks of [`Sheet::read`]. Some are held when planned.
     ///

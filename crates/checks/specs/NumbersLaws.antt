@@ -12,7 +12,7 @@ use Rattle.common.specs.Buffers.{padded, putAt}
 use Rattle.common.specs.BufferLaws.{putAt-padded}
 use Rattle.line.specs.Layout.{fields}
 use Rattle.checks.specs.Limits.{maxRations}
-use Rattle.checks.specs.Sheet.{Job, jobNumbers, numbersOf, jobsOf}
+use Rattle.checks.specs.Sheet.{Job, jobNumbers, numbersOf, numbersTo, jobsOf}
 
 pub length-numbersOf : (js : List Job) → length (numbersOf js) ≡ fields * length js
 unfolding numbersOf
@@ -41,33 +41,29 @@ length-jobsOf n xs e = omega (arith, length-numbersOf (jobsOf xs), ap length (nu
 
 -- a ration for each line or tank
 module _ (job : ℕ → Job) where
-  -- the numbers of the first n, from 1
-  abbrev pub numbersTo : ℕ → List ℕ
-  numbersTo n = numbersOf (map job (range 1 n))
-
-  pub length-numbersTo : (n : ℕ) → length (numbersTo n) ≡ fields * n
+  pub length-numbersTo : (n : ℕ) → length (numbersTo job n) ≡ fields * n
   length-numbersTo n = length-numbersOf (map job (range 1 n)) ∙ ap (λ k. fields * k) (length-from job 1 n)
 
-  pub numbersTo-none : replicate (fields * maxRations) 0 ≡ padded (fields * maxRations) (numbersTo 0)
+  pub numbersTo-none : replicate (fields * maxRations) 0 ≡ padded (fields * maxRations) (numbersTo job 0)
   unfolding padded numbersOf
   numbersTo-none = refl
 
-  one-more : (i : ℕ) → numbersTo (i + 1) ≡ numbersTo i ++ jobNumbers (job (i + 1))
+  one-more : (i : ℕ) → numbersTo job (i + 1) ≡ numbersTo job i ++ jobNumbers (job (i + 1))
   unfolding numbersOf
   one-more i =
-      ap numbersTo (add-one i)
+      ap (numbersTo job) (add-one i)
       ∙ ap (λ r. numbersOf (map job r)) (range-snoc 1 i)
       ∙ ap numbersOf (map-append job (range 1 i) ((1 + i) ∷ []))
       ∙ flatMap-append _ (map job (range 1 i)) (job (1 + i) ∷ [])
-      ∙ ap (λ k. numbersTo i ++ jobNumbers (job k)) (swap i)
+      ∙ ap (λ k. numbersTo job i ++ jobNumbers (job k)) (swap i)
     where
       swap : (i : ℕ) → 1 + i ≡ i + 1
       swap i = omega arith
 
   pub numbersTo-next : (i : ℕ)
-      → putAt (fields * i) (jobNumbers (job (i + 1))) (padded (fields * maxRations) (numbersTo i))
-      ≡ padded (fields * maxRations) (numbersTo (i + 1))
+      → putAt (fields * i) (jobNumbers (job (i + 1))) (padded (fields * maxRations) (numbersTo job i))
+      ≡ padded (fields * maxRations) (numbersTo job (i + 1))
   numbersTo-next i =
-      ap (λ at. putAt at (jobNumbers (job (i + 1))) (padded (fields * maxRations) (numbersTo i))) (sym (length-numbersTo i))
-      ∙ putAt-padded (fields * maxRations) (numbersTo i) (jobNumbers (job (i + 1)))
+      ap (λ at. putAt at (jobNumbers (job (i + 1))) (padded (fields * maxRations) (numbersTo job i))) (sym (length-numbersTo i))
+      ∙ putAt-padded (fields * maxRations) (numbersTo job i) (jobNumbers (job (i + 1)))
       ∙ ap (padded (fields * maxRations)) (sym (one-more i))

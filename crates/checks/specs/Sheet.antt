@@ -66,6 +66,10 @@ jobNumbers j = j .tank ∷ j .release ∷ j .deadline ∷ j .volume ∷ []
 unfoldable pub numbersOf : List Job → List ℕ
 numbersOf = flatMap jobNumbers
 
+-- .. of the first n of rations that are given by their places, from 1
+abbrev pub numbersTo : (ℕ → Job) → ℕ → List ℕ
+numbersTo job n = numbersOf (map job (range 1 n))
+
 -- the rations that flat numbers stand for; what is left of fewer than four stands for none
 unfoldable pub jobsOf : List ℕ → List Job
 jobsOf [] = []

@@ -26,8 +26,7 @@ use Rattle.checks.specs.Checks.{fault, valueFaults, faults}
 use Rattle.checks.specs.CallChecks.{writeChecks, questionChecks, comparisonChecks}
 use Rattle.sheet.specs.Calls.{refused, readingOf, writeRefusal, writtenOf, bufferAfter, writeRefusalFor}
 use Rattle.lookup.specs.LookUp.{lookUp, placeOf}
-use Rattle.practice.specs.Practice.{practiceSheet, practiceRefusal}
-use Rattle.practice.specs.SeedLaws.{seedInput}
+use Rattle.practice.specs.Practice.{practiceSheet, practiceRefusal, seedInput}
 use Rattle.checks.specs.FaultLaws.{numbered-valueFaults}
 use Rattle.sheet.specs.OwnCheckLaws.{bytes-checked}
 use Rattle.checks.specs.SheetLaws.{length-writeSheet}

@@ -20,8 +20,7 @@ use Rattle.checks.specs.Refusals.{noPlacing}
 use Rattle.checks.specs.Sheet.{Sheet, sheetOf}
 use Rattle.checks.specs.Checks.{faults}
 use Rattle.sheet.specs.Calls.{writtenOf, bufferAfter}
-use Rattle.practice.specs.Practice.{practiceSheet, practiceRefusal}
-use Rattle.practice.specs.SeedLaws.{seedInput}
+use Rattle.practice.specs.Practice.{practiceSheet, practiceRefusal, seedInput}
 use Rattle.plan_lines.specs.Sizes.{planBytes, placingWords, causesBytes}
 use Rattle.planning.specs.Problem.{alone, MayPlace, listingOf, wordsFor}
 use Rattle.planning.specs.Planning.{planRefusalFor, planRefusal, shortPlan, shortPlacing, listedAnswer, unlistedAnswer, listingAfter, placingAfter, comparedOf}
@@ -74,8 +73,8 @@ pub record DemandThree : Type 0 where
   pub practice : (seed : ℕ) (out listing : List ℕ) → let s = practiceSheet seed in let p = alone s in
       lineBytes * suc (length (s .jobs)) ≤ length out → planBytes ≤ length listing →
       let w = practiceRefusal seed (length out) in let b = take (writtenOf w s .length) (bufferAfter w s out) in
-      let r = planRefusal b (shortPlan listing) in let a = listedAnswer r (listingOf p) in
-      Outcome p (a .number) (written a (listingAfter r (listingOf p) listing))
+      let r = planRefusal b (shortPlan listing) in let text = listingOf (alone (sheetOf b)) in let a = listedAnswer r text in
+      Outcome p (a .number) (written a (listingAfter r text listing))
   -- a comparison is held exactly where its first sheet is well-formed and has no sound placing, or the first can be
   -- planned and that holds of the second
   pub compare : (a b : List ℕ) → let p = alone (sheetOf a) in let q = alone (sheetOf b) in
@@ -114,10 +113,10 @@ pub record DemandThree : Type 0 where
 -- what `plan` gives for bytes b with the values of t
 abbrev PlanOutcome : (listing b : List ℕ) → Sheet → Type 0
 PlanOutcome listing b t =
-    let p = alone t in
     let r = planRefusal b (shortPlan listing) in
-    let a = listedAnswer r (listingOf p) in
-    Outcome p (a .number) (written a (listingAfter r (listingOf p) listing))
+    let text = listingOf (alone (sheetOf b)) in
+    let a = listedAnswer r text in
+    Outcome (alone t) (a .number) (written a (listingAfter r text listing))
 
 plan-outcome : (b listing : List ℕ) → faults b ≡ [] → planBytes ≤ length listing → PlanOutcome listing b (sheetOf b)
 unfolding planRefusal listedAnswer

@@ -18,8 +18,7 @@ use Rattle.checks.specs.Sheet.{Sheet, sheetOf, numbersOf, sheetFrom}
 use Rattle.checks.specs.Checks.{faults}
 use Rattle.sheet.specs.Calls.{readingOf, writeRefusal, writeRefusalFor, writtenOf, bufferAfter}
 use Rattle.common.specs.Buffers.{over}
-use Rattle.practice.specs.Practice.{practiceSheet, practiceRefusal}
-use Rattle.practice.specs.SeedLaws.{seedInput}
+use Rattle.practice.specs.Practice.{practiceSheet, practiceRefusal, seedInput}
 use Rattle.schedules.specs.Demands.{demandsOf}
 use Rattle.method.specs.Method.{dayBounds}
 use Rattle.method.specs.Worded.{settleAllWorded, runsWorded, boundsWorded}
@@ -120,18 +119,18 @@ pub record DemandTwo : Type 0 where
   pub practice-plan : (seed : ℕ) (out listing : List ℕ) → let s = practiceSheet seed in let p = alone s in
       lineBytes * suc (length (s .jobs)) ≤ length out → HasPlacing p → planBytes ≤ length listing →
       let w = practiceRefusal seed (length out) in let b = take (writtenOf w s .length) (bufferAfter w s out) in
-      let r = planRefusal b (shortPlan listing) in let a = listedAnswer r (listingOf p) in
-      (a .number ≡ 0) × ByMethod p (linesOf (written a (listingAfter r (listingOf p) listing)))
+      let r = planRefusal b (shortPlan listing) in let text = listingOf (alone (sheetOf b)) in let a = listedAnswer r text in
+      (a .number ≡ 0) × ByMethod p (linesOf (written a (listingAfter r text listing)))
 
 -- The theorem -------------------------------------------------------------------------------------
 
 -- what `plan` gives for bytes b with the values of t
 abbrev PlanByMethod : (listing b : List ℕ) → Sheet → Type 0
 PlanByMethod listing b t =
-    let p = alone t in
     let r = planRefusal b (shortPlan listing) in
-    let a = listedAnswer r (listingOf p) in
-    (a .number ≡ 0) × ByMethod p (linesOf (written a (listingAfter r (listingOf p) listing)))
+    let text = listingOf (alone (sheetOf b)) in
+    let a = listedAnswer r text in
+    (a .number ≡ 0) × ByMethod (alone t) (linesOf (written a (listingAfter r text listing)))
 
 plan-by-method : (b listing : List ℕ) → faults b ≡ [] → HasPlacing (alone (sheetOf b)) → planBytes ≤ length listing → PlanByMethod listing b (sheetOf b)
 unfolding planRefusal listedAnswer

@@ -11,8 +11,7 @@ use Rattle.checks.specs.Refusals.{badForm}
 use Rattle.checks.specs.Sheet.{Sheet, writeSheet, sheetOf}
 use Rattle.checks.specs.Checks.{faults}
 use Rattle.sheet.specs.Calls.{writtenOf, bufferAfter}
-use Rattle.practice.specs.Practice.{practiceSheet, practiceRefusal}
-use Rattle.practice.specs.SeedLaws.{seedInput}
+use Rattle.practice.specs.Practice.{practiceSheet, practiceRefusal, seedInput}
 use Rattle.practice.specs.PracticeLaws.{practice-room}
 use Rattle.practice.specs.Theorems.{practice-accepted, practice-values}
 use Rattle.plan_lines.specs.Text.{refusalText}

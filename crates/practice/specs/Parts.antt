@@ -6,7 +6,7 @@ use lib.ListN.{length}
 use Rattle.common.specs.Buffers.{padded}
 use Rattle.line.specs.Layout.{fields}
 use Rattle.checks.specs.Limits.{maxRations}
-use Rattle.checks.specs.NumbersLaws.{numbersTo}
+use Rattle.checks.specs.Sheet.{numbersTo}
 use Rattle.practice.specs.Practice.{seedAfter, practiceJob}
 
 -- the flat numbers have room for four at a place

@@ -1,12 +1,12 @@
 -- Practice sheets: the draws from a seed, and the sheet that they make. Request 107. Definitions only.
 use mathlib.Core.Bool.{Bool, _||_, not}
-use mathlib.Core.List.{List, [], map}
+use mathlib.Core.List.{List, [], _∷_, _++_, map}
 use Prim.Native.Nat.{ℕ, zero, suc, _+_, _-_, _*_, _/_, _%_, _^_}
 use lib.Dec.{eqb}
 use lib.ListN.{length, getD, take}
 use Rattle.common.specs.Lists.{range}
 use Rattle.line.specs.Layout.{width, newline, lineBytes}
-use Rattle.line.specs.Field.{parse, numberOf, isFaulty}
+use Rattle.line.specs.Field.{parse, numberOf, isFaulty, writeField}
 use Rattle.checks.specs.declared.Refusal.{Refusal}
 use Rattle.checks.specs.Sheet.{Job, Sheet}
 use Rattle.sheet.specs.Calls.{writeRefusalFor}
@@ -60,6 +60,10 @@ unfoldable pub practiceRefusal : ℕ → ℕ → Refusal
 practiceRefusal seed size = writeRefusalFor [] (practiceSheet seed) size
 
 -- A seed as an input ---------------------------------------------------------------
+
+-- the input of a seed: its field, closed by byte 10
+abbrev pub seedInput : ℕ → List ℕ
+seedInput seed = writeField seed ++ (newline ∷ [])
 
 -- any input but one field of five columns in the stated form, closed by byte 10
 unfoldable pub faultySeed : List ℕ → Bool

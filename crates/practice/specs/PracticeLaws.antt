@@ -17,10 +17,10 @@ use Rattle.common.specs.FillLaws.{take-padded}
 use Rattle.line.specs.Layout.{fields, lineBytes}
 use Rattle.checks.specs.Limits.{maxRations}
 use Rattle.checks.specs.Refusals.{shortBuffer}
-use Rattle.checks.specs.Sheet.{Job, jobNumbers, jobsOf, sheetFrom}
+use Rattle.checks.specs.Sheet.{Job, jobNumbers, jobsOf, sheetFrom, numbersTo}
 use Rattle.checks.specs.Checks.{fault, firstRefusal, valueFaults, flatFaults}
 use Rattle.checks.specs.RangeLaws.{JobInRange, JobsInRange, ValuesInRange, valueFaults-inRange}
-use Rattle.checks.specs.NumbersLaws.{jobsOf-numbersOf, numbersTo, length-numbersTo, numbersTo-none, numbersTo-next}
+use Rattle.checks.specs.NumbersLaws.{jobsOf-numbersOf, length-numbersTo, numbersTo-none, numbersTo-next}
 use Rattle.sheet.specs.declared.Written.{Written}
 use Rattle.sheet.specs.Calls.{writeRefusal, writeRefusalFor}
 use Rattle.sheet.specs.OwnChecks.{Wrote}

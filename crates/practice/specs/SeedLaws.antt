@@ -14,7 +14,7 @@ use Rattle.line.specs.declared.Field.the-variants.{Value, Faulty}
 use Rattle.line.specs.Layout.{width, newline}
 use Rattle.line.specs.Field.{parse, numberOf, isFaulty, writeField}
 use Rattle.line.specs.FieldLaws.{parse-writeField, writeField-parse, parse-fits, length-writeField, snoc-of}
-use Rattle.practice.specs.Practice.{faultySeed, seedIn}
+use Rattle.practice.specs.Practice.{seedInput, faultySeed, seedIn}
 
 -- Test after test -----------------------------------------------------------------------------
 
@@ -41,10 +41,6 @@ module _ (b : List ℕ) where
   seed-read e = e
 
 -- The input of a seed ------------------------------------------------------------------------
-
--- the input that has a seed: one field, closed by byte 10
-abbrev pub seedInput : ℕ → List ℕ
-seedInput seed = writeField seed ++ (newline ∷ [])
 
 module _ (seed : ℕ) (h : seed < 10 ^ width) where
   field : parse (take width (seedInput seed)) ≡ Value seed

@@ -2,7 +2,7 @@
 //
 // `write_practice` draws the sheet's numbers one after another (specs/Practice.antt) and hands them to the writer.
 // Whatever the seed is, the sheet passes every check of a sheet and is read back to the numbers drawn
-// (specs/Theorems.antt); whether it has a sound placing is left to chance.
+// (specs/Theorems.antt). Whether it has a sound placing depends on the seed.
 mod draws;
 mod product;
 mod rations;

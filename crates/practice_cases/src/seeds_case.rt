@@ -1,6 +1,7 @@
 // The sheets of a range of seeds. Of each `S seed number length` and the digest of a whole buffer, which has room for
 // the longest; then the sheet planned with both buffers, `D number line length`, the digest of the listing and that of
 // the whole placing buffer; then its causes, `C number line length cut` and the digest of the listing.
+use practice::sizes::PRACTICE_BYTES;
 
 fn plan(sheet: &[u8]) {
     let mut room = [0u8; 32303];
@@ -31,8 +32,7 @@ fn list_causes(sheet: &[u8]) {
 }
 
 fn answer_seed(seed: u32) {
-    // a sheet has at most 65 lines of 21 bytes
-    let mut room = [0u8; 1365];
+    let mut room = [0u8; PRACTICE_BYTES];
     cases::fill(&mut room);
     let written = practice::write_practice(seed, &mut room);
     io::write_all(1, b"S");

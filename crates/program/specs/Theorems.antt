@@ -26,8 +26,8 @@ use Rattle.planning.specs.WrittenLaws.{number-planned, number-held, writes-plan
 use Rattle.planning.specs.ReadListing.{written}
 use Rattle.planning.specs.ReadLaws.{FitsLine, FitLines}
 use Rattle.planning.specs.Theorems.{ReadsAs, reads-as}
-use Rattle.practice.specs.Practice.{faultySeed, seedIn, practiceSheet}
-use Rattle.practice.specs.SeedLaws.{seedInput, seed-fine, seed-is, seed-there}
+use Rattle.practice.specs.Practice.{practiceSheet, seedInput, faultySeed, seedIn}
+use Rattle.practice.specs.SeedLaws.{seed-fine, seed-is, seed-there}
 use Rattle.program.specs.Program.{output, outputOf, seedOutput, madeSheetOf}
 use Rattle.program.specs.OutputLaws.{length-output}
 

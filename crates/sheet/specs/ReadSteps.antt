@@ -15,10 +15,10 @@ use Rattle.line.specs.Line.{valueAt, faultyLine}
 use Rattle.checks.specs.declared.Refusal.{Refusal}
 use Rattle.checks.specs.Limits.{maxBytes, maxRations}
 use Rattle.checks.specs.Refusals.{badLength, badForm}
-use Rattle.checks.specs.Sheet.{Sheet, lineCount, lineAt, jobAt, sheetOf, numbersOf, jobsOf}
+use Rattle.checks.specs.Sheet.{Sheet, lineCount, lineAt, jobAt, sheetOf, numbersOf, jobsOf, numbersTo}
 use Rattle.checks.specs.Checks.{firstRefusal, outside, lengthFaults, firstFaulty, formFaults, headFaults, jobsFaults, valueFaults, faults}
 use Rattle.sheet.specs.Calls.{accepted, refused, readingFrom, readingOf}
-use Rattle.checks.specs.NumbersLaws.{jobsOf-numbersOf, numbersTo, length-numbersTo}
+use Rattle.checks.specs.NumbersLaws.{jobsOf-numbersOf, length-numbersTo}
 use Rattle.checks.specs.SheetLaws.{length-jobs-sheetOf}
 use Rattle.checks.specs.FaultLaws.{Numbered, numbered-fault, numbered-before, numbered-headFaults}
 use Rattle.checks.specs.RangeLaws.{HeadInRange, inRange-headFaults}

@@ -6,8 +6,8 @@ use Rattle.common.specs.Buffers.{padded, putAt}
 use Rattle.common.specs.BufferLaws.{length-padded}
 use Rattle.line.specs.Layout.{fields, lineBytes}
 use Rattle.checks.specs.Limits.{maxRations}
-use Rattle.checks.specs.Sheet.{jobAt, jobNumbers}
-use Rattle.checks.specs.NumbersLaws.{numbersTo, length-numbersTo, numbersTo-none, numbersTo-next}
+use Rattle.checks.specs.Sheet.{jobAt, jobNumbers, numbersTo}
+use Rattle.checks.specs.NumbersLaws.{length-numbersTo, numbersTo-none, numbersTo-next}
 use native.Mathlib.Omega.{arith}
 use Rattle.sheet.proofs.reader.ration_numbers.Statement.{statement}
 use Rattle.sheet.proofs.reader.ration_numbers.Tie as tie

@@ -5,10 +5,10 @@ use lib.ListN.{length}
 use Rattle.common.specs.BufferLaws.{length-padded}
 use Rattle.line.specs.Layout.{width, fields, lineBytes}
 use Rattle.checks.specs.Limits.{maxRations}
-use Rattle.checks.specs.Sheet.{lineCount}
+use Rattle.checks.specs.Sheet.{lineCount, numbersTo}
 use Rattle.sheet.specs.LineSteps.{value-place}
 use Rattle.checks.specs.Sheet.{jobAt}
-use Rattle.checks.specs.NumbersLaws.{numbersTo, length-numbersTo}
+use Rattle.checks.specs.NumbersLaws.{length-numbersTo}
 use Rattle.sheet.specs.ReadSteps.{form-refused, head-refused, head-passed, head-agrees, jobs-refused, read-accepted}
 use native.Mathlib.Omega.{arith}
 use borrow.Author.Needs.{needs}
