@@ -122,7 +122,7 @@ module _ {slots rations : ℕ} (m : ℕ) {W N H : List ℕ} (p : CanPlan slots r
         → let zeros : List ℕ = replicate maxSlots 0 in
         WordsPlanned (record { held = true; counts = zeros; fed = zeros; marks = S; forced = x; capacity = y })
         slots m rations W N H
-    words-held e x y ds high d g n below =
+    words-held e {x} {y} u v ds high d g n below =
         record {
           held = ap not (sym e ∙ b .answer slots ds high d g);
           counts-long = refl;
@@ -135,8 +135,8 @@ module _ {slots rations : ℕ} (m : ℕ) {W N H : List ℕ} (p : CanPlan slots r
           no-capacity = λ z. absurd (true≢false z);
           shown = λ _. b .marked e slots ds high d g;
           marks-past = λ _. b .marks-past e slots ds d;
-          forced-in = λ _. x ∙ sym (b .counted e slots ds high d g);
-          high-over = λ _. y ∙ highs-capacity S (criticalSet slots ds high) g (b .marked e slots ds high d g);
+          forced-in = λ _. u ∙ sym (b .counted e slots ds high d g);
+          high-over = λ _. v ∙ highs-capacity S (criticalSet slots ds high) g (b .marked e slots ds high d g);
           no-counts = λ _. refl;
           no-fed = λ _. refl;
         }
