@@ -4,7 +4,7 @@
 use mathlib.Core.Bool.{Bool}
 use mathlib.Core.List.{List, _++_}
 use Rattle.checks.specs.declared.Refusal.{Refusal}
-use Rattle.checks.specs.Refusals.{shortBuffer, badList, noPlacing}
+use Rattle.checks.specs.Refusals.{shortBuffer, badList, noPlacing, badHalls}
 use Rattle.checks.specs.Checks.{fault}
 
 -- write: then the buffer, which is too short or not
@@ -25,6 +25,13 @@ planningChecks own short none =
     own
     ++ (fault shortBuffer 0 short
     ++ fault noPlacing 0 none)
+
+-- halls: before all sheets the limit, which is out of range or not, and their number; each hall then has the checks of
+-- a planning call
+abbrev pub hallsChecks : Bool → Bool → List Refusal
+hallsChecks limit halls =
+    fault badHalls 0 limit
+    ++ fault badHalls 0 halls
 
 -- compare: all checks of the first sheet, 12 included, before those of the second
 abbrev pub comparisonChecks : List Refusal → Bool → List Refusal → Bool → List Refusal

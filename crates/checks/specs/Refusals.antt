@@ -46,3 +46,7 @@ noPlacing = 12
 -- a meal's window, after the one before it
 abbrev pub badMeal : ℕ
 badMeal = 13
+
+-- the limit of halls behind one mains fuse, or their number
+abbrev pub badHalls : ℕ
+badHalls = 14

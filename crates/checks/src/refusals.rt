@@ -32,3 +32,6 @@ pub const NO_PLACING: u32 = 12;
 
 // a meal's window, after the one before it
 pub const BAD_MEAL: u32 = 13;
+
+// the limit of halls behind one mains fuse, or their number
+pub const BAD_HALLS: u32 = 14;

@@ -22,7 +22,7 @@ use Rattle.common.specs.BufferLaws.{length-over}
 use Rattle.sheet.specs.CallLaws.{writtenOf-refused, bufferAfter-refused}
 use Rattle.checks.specs.FaultLaws.{false-fault, append-nil-parts, Numbered, numbered-append, numbered-fault, numbered-faults}
 use Rattle.checks.specs.RangeLaws.{ValuesInRange}
-use Rattle.sheet.specs.OwnChecks.{OfSheet, OwnChecks}
+use Rattle.sheet.specs.OwnChecks.{OwnChecks}
 use Rattle.sheet.specs.OwnCheckLaws.{bytes-checked, values-checked}
 use Rattle.checks.specs.SheetLaws.{length-writeSheet}
 use Rattle.checks.specs.NumbersLaws.{length-jobsOf}
@@ -40,7 +40,7 @@ use Rattle.planning.specs.PlacingLaws.{placing-rows, length-placing}
 use Rattle.planning.specs.WrittenLaws.{writes-planned, writes-held}
 use Rattle.planning.specs.ProblemLaws.{feedings-sound, listing-plan, listing-held, words-plan, words-held, length-listing}
 use Rattle.planning.specs.AloneLaws.{left-alone, room-alone, may-alone, alone-in-range}
-use Rattle.planning.specs.CallAnswers.{long-plan, long-placing, writes-nothing, listed-nothing, placed-nothing}
+use Rattle.planning.specs.CallAnswers.{passed-planned, passed-held, long-plan, long-placing, writes-nothing, listed-nothing, placed-nothing}
 use Rattle.program.specs.Program.{output}
 use Rattle.records.specs.Records.{recordFaults}
 use Rattle.demands.specs.Outcome.{AloneIs}
@@ -68,24 +68,6 @@ numbered-plan own numbered short p =
 -- one check more, of a list or a buffer
 pub numbered-one : (own : List Refusal) → Numbered own → (number : ℕ) (t : Bool) → 0 < number → Numbered (own ++ fault number 0 t)
 numbered-one own h number t l = numbered-append own (fault number 0 t) h (numbered-fault number 0 t l)
-
--- what number 0, and what number 12, says of a call that plans: its sheet is well-formed, no buffer is too short, and
--- the sheet is planned or held
-pub passed-planned : (own : List Refusal) → Numbered own → (short c : Bool) → firstRefusal (own ++ (fault shortBuffer 0 short ++ fault noPlacing 0 (not c))) .number ≡ 0
-    → (own ≡ []) × (short ≡ false) × (c ≡ true)
-unfolding firstRefusal
-passed-planned [] n true c e = absurd (omega arith)
-passed-planned [] n false true e = (refl, refl, refl)
-passed-planned [] n false false e = absurd (omega arith)
-passed-planned (x ∷ xs) n short c e = absurd (cons≢nil (n e))
-
-passed-held : (own : List Refusal) → OfSheet own → (short c : Bool) → firstRefusal (own ++ (fault shortBuffer 0 short ++ fault noPlacing 0 (not c))) .number ≡ noPlacing
-    → (own ≡ []) × (short ≡ false) × (c ≡ false)
-unfolding firstRefusal
-passed-held [] h true c e = absurd (omega arith)
-passed-held [] h false true e = absurd (omega arith)
-passed-held [] h false false e = (refl, refl, refl)
-passed-held (x ∷ xs) h short c e = absurd (h .not-held e)
 
 -- A lent buffer ------------------------------------------------------------------------------
 

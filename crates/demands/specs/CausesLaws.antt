@@ -36,7 +36,8 @@ use Rattle.causes.specs.ReadCauses.{Entry, entriesIn, entryOf, writtenCauses}
 use Rattle.causes.specs.EndingLaws.{ended-by-method, ended-explained, front-read}
 use Rattle.demands.specs.Answers.{NotZero, CausesListed, CausesBuffer}
 use Rattle.program.specs.Program.{output, explanation, explanationCut, explanationOf}
-use Rattle.demands.specs.AnswerLaws.{passed-planned, front-over}
+use Rattle.planning.specs.CallAnswers.{passed-planned}
+use Rattle.demands.specs.AnswerLaws.{front-over}
 use Rattle.demands.specs.OutcomeLaws.{lines-are}
 use Rattle.demands.specs.Causes.{EntriesOf, CausesByMethod, stretchesInOrder, endedOn, entryEnd, stretchEnd, CausesShown}
 

@@ -5,6 +5,7 @@
 // and then a length.
 mod causing;
 mod comparing;
+mod halls;
 mod placings;
 mod plans;
 mod sheets;

@@ -28,7 +28,7 @@ module _ (s : Sheet) where
   unfolding fullHigh
   length-fullHigh = length-replicate (s .slots) (s .blowers)
 
-  fullHigh-at : (t : ℕ) → t < s .slots → getD (fullHigh s) t 0 ≡ s .blowers
+  pub fullHigh-at : (t : ℕ) → t < s .slots → getD (fullHigh s) t 0 ≡ s .blowers
   unfolding fullHigh
   fullHigh-at t l = getD-replicate (s .slots) t (s .blowers) 0 l
 

@@ -1,26 +1,30 @@
 -- How a planning call's answer and its lent buffers follow from what it read, found and wrote, whatever checks its
 -- sheet passed, whatever problem was planned and whatever buffers it was lent. Assumes nothing.
 use mathlib.Core.Path.{_≡_, refl, sym, ap, subst, _∙_}
-use mathlib.Core.Bool.{Bool, true, false, not, _||_}
-use mathlib.Core.List.{List, _++_}
+use mathlib.Core.Bool.{Bool, true, false, not, _||_, cond}
+use mathlib.Core.List.{List, [], _∷_, _++_, cons≢nil}
 use Prim.Native.Nat.{ℕ, _≤_, _<_}
+use native.Mathlib.Omega.{arith}
 use lib.Dec.{ltb}
-use lib.ListN.{length}
+use lib.ListN.{length, replicate}
 use borrow.Author.Tests.{lt-ltb, le-ltb, ltb-false, ne-eqb}
 use Rattle.checks.specs.declared.Refusal.{Refusal}
 use Rattle.sheet.specs.declared.Reading.{Reading}
 use Rattle.checks.specs.Refusals.{shortBuffer, noPlacing}
 use Rattle.checks.specs.Sheet.{Sheet}
 use Rattle.checks.specs.Checks.{fault, firstRefusal}
-use Rattle.common.specs.Buffers.{over}
-use Rattle.sheet.specs.OwnChecks.{ReadFrom}
+use Rattle.common.specs.Buffers.{over, padded}
+use Rattle.checks.specs.Limits.{maxSlots}
+use Rattle.checks.specs.FaultLaws.{Numbered}
+use Rattle.sheet.specs.OwnChecks.{OfSheet, ReadFrom}
 use Rattle.sheet.specs.OwnCheckLaws.{refused-before, accepted-before, not-held}
 use Rattle.stretches.specs.declared.Day.{Day}
 use Rattle.plan_lines.specs.Sizes.{planBytes, placingWords}
 use Rattle.listing.specs.Opening.{Written}
-use Rattle.planning.specs.Problem.{Problem, canBePlanned, listingOf, wordsFor}
-use Rattle.planning.specs.Planning.{heldFaults, planChecks, shortPlan, shortPlacing, writes, listedAnswer, unlistedAnswer, listingAfter, placingAfter}
+use Rattle.planning.specs.Problem.{Problem, canBePlanned, countsOf, listingOf, wordsFor}
+use Rattle.planning.specs.Planning.{heldFaults, planChecks, shortPlan, shortPlacing, writes, listedAnswer, unlistedAnswer, listingAfter, placingAfter, busyAfter}
 use Rattle.planning.specs.Contracts.{DayOf, NumberOf, Listed}
+use Rattle.planning.specs.DayLaws.{day-counts}
 
 -- ---- the buffers' lengths
 
@@ -51,6 +55,24 @@ room-placing out l = le-ltb (length out) placingWords l
 
 pub neither : (x y : Bool) → x ≡ false → y ≡ false → (x || y) ≡ false
 neither x y e f = rw (e, f)
+
+-- ---- what number 0, and what number 12, says of a call that plans: its sheet is well-formed, no buffer is too short, and
+-- the sheet is planned or held
+pub passed-planned : (own : List Refusal) → Numbered own → (short c : Bool) → firstRefusal (own ++ (fault shortBuffer 0 short ++ fault noPlacing 0 (not c))) .number ≡ 0
+    → (own ≡ []) × (short ≡ false) × (c ≡ true)
+unfolding firstRefusal
+passed-planned [] n true c e = absurd (omega arith)
+passed-planned [] n false true e = (refl, refl, refl)
+passed-planned [] n false false e = absurd (omega arith)
+passed-planned (x ∷ xs) n short c e = absurd (cons≢nil (n e))
+
+pub passed-held : (own : List Refusal) → OfSheet own → (short c : Bool) → firstRefusal (own ++ (fault shortBuffer 0 short ++ fault noPlacing 0 (not c))) .number ≡ noPlacing
+    → (own ≡ []) × (short ≡ false) × (c ≡ false)
+unfolding firstRefusal
+passed-held [] h true c e = absurd (omega arith)
+passed-held [] h false true e = absurd (omega arith)
+passed-held [] h false false e = (refl, refl, refl)
+passed-held (x ∷ xs) h short c e = absurd (h .not-held e)
 
 -- ---- numbers that write nothing, and numbers that write
 
@@ -93,6 +115,12 @@ unfolding firstRefusal
 day-refusal p true f = ap (λ y. firstRefusal (fault noPlacing 0 y)) (sym f)
 day-refusal p false f = ap (λ y. firstRefusal (fault noPlacing 0 y)) (sym f)
 
+-- the busy blowers of a held day, and of a planned one
+busy-outcome : (x : Bool) (p : Problem) → cond x (replicate maxSlots 0) (padded maxSlots (countsOf p)) ≡ busyAfter (record { number = NumberOf x; line = 0 }) p
+unfolding busyAfter
+busy-outcome true p = refl
+busy-outcome false p = refl
+
 -- ---- the answers
 
 module _ {own : List Refusal} {s : Sheet} {r : Reading} (h : ReadFrom own s r) (p : Problem) (short : Bool) where
@@ -115,6 +143,10 @@ module _ {own : List Refusal} {s : Sheet} {r : Reading} (h : ReadFrom own s r) (
 
     pub placed-read : (words old : List ℕ) → old ≡ placingAfter refusal words old
     placed-read words old = subst (λ f. old ≡ placingAfter f words old) by-read (placed-nothing read silent words old)
+
+    pub busy-read : replicate maxSlots 0 ≡ busyAfter refusal p
+    unfolding busyAfter
+    busy-read = subst (λ f. replicate maxSlots 0 ≡ busyAfter f p) by-read (rw (ne-eqb (r .number) 0 n))
 
     pub unlisted-read : record { number = r .number; line = r .line; length = 0 } ≡ unlistedAnswer refusal
     unlisted-read = unlisted read ∙ ap unlistedAnswer by-read
@@ -140,6 +172,10 @@ module _ {own : List Refusal} {s : Sheet} {r : Reading} (h : ReadFrom own s r) (
       unfolding writes
       placed-short words old = subst (λ f. old ≡ placingAfter f words old) by-short (placed-nothing tooShort refl words old)
 
+      pub busy-short : replicate maxSlots 0 ≡ busyAfter refusal p
+      unfolding busyAfter
+      busy-short = subst (λ f. replicate maxSlots 0 ≡ busyAfter f p) by-short refl
+
       pub unlisted-short : record { number = shortBuffer; line = 0; length = 0 } ≡ unlistedAnswer refusal
       unlisted-short = unlisted tooShort ∙ ap unlistedAnswer by-short
 
@@ -161,6 +197,9 @@ module _ {own : List Refusal} {s : Sheet} {r : Reading} (h : ReadFrom own s r) (
 
       pub placed-day : (old new : List ℕ) → new ≡ over (wordsFor p) old → new ≡ placingAfter refusal (wordsFor p) old
       placed-day old new w = subst (λ f. new ≡ placingAfter f (wordsFor p) old) by-day (placed-words outcome (writes-day (d .held)) (wordsFor p) old new w)
+
+      pub busy-day : d .counts ≡ busyAfter refusal p
+      busy-day = day-counts k ∙ subst (λ f. cond (d .held) (replicate maxSlots 0) (padded maxSlots (countsOf p)) ≡ busyAfter f p) by-day (busy-outcome (d .held) p)
 
       pub unlisted-day : record { number = NumberOf (d .held); line = 0; length = 0 } ≡ unlistedAnswer refusal
       unlisted-day = unlisted outcome ∙ ap unlistedAnswer by-day

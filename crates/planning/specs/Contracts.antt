@@ -10,6 +10,7 @@ use Rattle.sheet.specs.declared.Reading.{Reading}
 use Rattle.checks.specs.Limits.{maxSlots}
 use Rattle.checks.specs.Refusals.{noPlacing}
 use Rattle.checks.specs.Sheet.{Sheet}
+use Rattle.checks.specs.Checks.{firstRefusal}
 use Rattle.sheet.specs.Calls.{accepted}
 use Rattle.sheet.specs.OwnChecks.{ReadFrom, SomeReading}
 use Rattle.schedules.specs.Shortfall.{forced, capacity}
@@ -17,10 +18,12 @@ use Rattle.schedules.specs.Tabulate.{tab}
 use Rattle.placing.specs.Represents.{marksOf}
 use Rattle.feedings.specs.CellChoice.{ScheduleWords}
 use Rattle.stretches.specs.declared.Day.{Day}
+use Rattle.stretches.specs.Days.{HighsOf, SomeHighs}
 use Rattle.listing.specs.Opening.{Written}
 use Rattle.planning.specs.declared.Planned.{Planned}
-use Rattle.planning.specs.Problem.{Problem, alone, left, room, ProblemInRange, canBePlanned, feedingsOf, countsOf, shownSet, listingOf, wordsFor}
-use Rattle.planning.specs.Planning.{planRefusalFor, shortPlan, shortPlacing, listedAnswer, unlistedAnswer, listingAfter, placingAfter, sameDay}
+use Rattle.planning.specs.declared.PlannedDay.{PlannedDay}
+use Rattle.planning.specs.Problem.{Problem, wholeDay, alone, left, room, ProblemInRange, canBePlanned, feedingsOf, countsOf, shownSet, listingOf, wordsFor}
+use Rattle.planning.specs.Planning.{planChecks, planRefusalFor, shortPlan, shortPlacing, listedAnswer, unlistedAnswer, listingAfter, placingAfter, busyAfter, sameDay}
 
 -- The day of a problem ------------------------------------------------------------------------
 
@@ -64,6 +67,12 @@ pub record ReadSheet (r : Reading) : Type 0 where
 abbrev pub DayFound : Reading → Day → Type 0
 DayFound r d = (own : List Refusal) (s : Sheet) → ReadFrom own s r → r .number ≡ 0 → DayOf (alone s) r d
 
+-- the same under whatever highs the bytes H have
+abbrev pub DayFoundUnder : Reading → (H : List ℕ) → Day → Type 0
+DayFoundUnder r H d =
+    (own : List Refusal) (s : Sheet) → ReadFrom own s r → r .number ≡ 0 → (high : List ℕ) → HighsOf (r .slots) (r .blowers) high H
+    → DayOf (wholeDay s high) r d
+
 -- the listing of whatever problem it is the day of was written, and n is its length
 abbrev pub DayListed : Reading → Day → (old new : List ℕ) → ℕ → Type 0
 DayListed r d old new n = (p : Problem) → DayOf p r d → Written (listingOf p) old new n
@@ -96,6 +105,22 @@ ReadBoth r old new old′ new′ p =
     (own : List Refusal) (s : Sheet) → ReadFrom own s r
     → Listed (planRefusalFor own s (shortPlan old || shortPlacing old′)) (listingOf (alone s)) old new p
     × (new′ ≡ placingAfter (planRefusalFor own s (shortPlan old || shortPlacing old′)) (wordsFor (alone s)) old′)
+
+-- where no check of the sheet applied, the bytes H have highs of its day
+abbrev pub HighsIfRead : Reading → (H : List ℕ) → Type 0
+HighsIfRead r H = r .number ≡ 0 → SomeHighs (r .slots) (r .blowers) H
+
+-- an answer, both buffers afterwards and the busy blowers of each slot, at a refusal
+pub record UnderAt (f : Refusal) (p : Problem) (old new old′ new′ : List ℕ) (x : PlannedDay) : Type 0 where
+  pub listed : Listed f (listingOf p) old new (x .planned)
+  pub placed : new′ ≡ placingAfter f (wordsFor p) old′
+  pub busy : x .counts ≡ busyAfter f p
+
+-- with both, under whatever highs the bytes H have
+abbrev pub ReadUnder : Reading → (H old new old′ new′ : List ℕ) → PlannedDay → Type 0
+ReadUnder r H old new old′ new′ x =
+    (own : List Refusal) (s : Sheet) → ReadFrom own s r → (high : List ℕ) → (r .number ≡ 0 → HighsOf (r .slots) (r .blowers) high H)
+    → UnderAt (firstRefusal (planChecks own (shortPlan old || shortPlacing old′) (wholeDay s high))) (wholeDay s high) old new old′ new′ x
 
 -- with none
 abbrev pub ReadNumbered : Reading → Planned → Type 0

@@ -1,10 +1,10 @@
 -- The day of a problem (`DayOf`): where it is that of a whole day, and what may be written for it. Assumes nothing.
-use mathlib.Core.Path.{_≡_, refl, sym, ap, _∙_, subst}
-use mathlib.Core.Bool.{Bool, true, false}
+use mathlib.Core.Path.{_≡_, refl, sym, ap, ap₂, _∙_, subst}
+use mathlib.Core.Bool.{Bool, true, false, cond}
 use mathlib.Core.List.{List, map}
 use Prim.Native.Nat.{ℕ, _*_, _≤_, _<_}
 use native.Mathlib.Omega.{arith}
-use lib.ListN.{length, getD, take, replicate}
+use lib.ListN.{length, getD, take, replicate, length-replicate, getD-replicate}
 use lib.Pow.{pow-mono}
 use lib.Seq.{ext-getD, getD-take, length-take-le}
 use borrow.Author.Tests.{not-true, not-false}
@@ -13,9 +13,10 @@ use Rattle.checks.specs.Limits.{maxSlots, maxRations}
 use Rattle.line.specs.Layout.{fields}
 use Rattle.checks.specs.Sheet.{Sheet, numbersOf}
 use Rattle.sheet.specs.Calls.{accepted}
-use Rattle.common.specs.Buffers.{over}
+use Rattle.common.specs.Buffers.{over, padded}
 use Rattle.checks.specs.NumbersLaws.{length-numbersOf}
 use Rattle.common.specs.BufferLaws.{length-padded}
+use Rattle.common.specs.FillLaws.{filled-end}
 use Rattle.checks.specs.declared.Refusal.{Refusal}
 use Rattle.checks.specs.RangeLaws.{ValuesInRange}
 use Rattle.sheet.specs.OwnChecks.{ReadFrom}
@@ -29,7 +30,7 @@ use Rattle.placing.specs.ReadLaws.{SheetRead, sheet-read}
 use Rattle.feedings.specs.CellChoice.{ScheduleWords}
 use Rattle.feedings.specs.ScheduleWordLaws.{words-load}
 use Rattle.stretches.specs.declared.Day.{Day}
-use Rattle.stretches.specs.Days.{DayPlanned}
+use Rattle.stretches.specs.Days.{DayPlanned, HighsOf, DayUnder}
 use Rattle.plan_lines.specs.Sizes.{planBytes, placingWords}
 use Rattle.plan_lines.specs.Text.{planText, heldText}
 use Rattle.plan_lines.specs.PlacingForms.{wordsOf}
@@ -39,11 +40,11 @@ use Rattle.listing.specs.Opening.{Written}
 use Rattle.listing.specs.PlanSteps.{CanPutPlan}
 use Rattle.listing.specs.PlanSteps as Put
 use Rattle.listing.specs.HeldSteps.{CanPutHeld}
-use Rattle.planning.specs.Problem.{Problem, SoundPlacing, alone, left, room, ProblemInRange, canBePlanned, settledCounts, feedingsOf, countsOf, shownSet, planWith, listingOf, wordsFor}
+use Rattle.planning.specs.Problem.{Problem, SoundPlacing, wholeDay, alone, left, room, ProblemInRange, canBePlanned, settledCounts, feedingsOf, countsOf, shownSet, planWith, listingOf, wordsFor}
 use Rattle.planning.specs.Contracts.{DayOf}
 use Rattle.planning.specs.InputLaws.{Holds, planText-holds, setOf-tab, words-of, words-hold}
 use Rattle.planning.specs.PlacingLaws.{placing-rows, counts-le, length-placing}
-use Rattle.planning.specs.AloneLaws.{left-alone, room-alone, alone-in-range}
+use Rattle.planning.specs.AloneLaws.{left-whole, room-whole, whole-in-range}
 use Rattle.planning.specs.ProblemLaws.{listing-plan, listing-held, words-plan, words-held, length-wordsFor, length-left, feedings-sound, feedings-whole, counts-whole, length-countsOf}
 
 -- the day that was planned of what is left of a whole day, in the room left
@@ -186,24 +187,71 @@ module _ {p : Problem} {r : Reading} {d : Day} (h : DayOf p r d) where
   pub words-written : (old : List ℕ) {new : List ℕ} → new ≡ over (d .fed) old → new ≡ over (wordsFor p) old
   words-written old w = w ∙ ap (λ x. over x old) day-words
 
--- The day of a sheet that was read, planned alone ------------------------------------------
+  -- the busy blowers of a day, planned or held
+  pub day-counts : d .counts ≡ cond (d .held) (replicate maxSlots 0) (padded maxSlots (countsOf p))
+  day-counts = go (d .held) refl
+    where
+      planned : d .held ≡ false → d .counts ≡ padded maxSlots (countsOf p)
+      planned e =
+          let size = length-countsOf p (h .in-range) (can e) in
+          let short : length (countsOf p) ≤ maxSlots = omega (arith, size, values .head .slots .le) in
+          filled-end maxSlots (countsOf p) (λ t. getD (countsOf p) t 0) (length (countsOf p)) refl short (λ t l. refl) (d .counts)
+          (record {
+            long = h .counts-long;
+            filled = λ t l. h .counted e t (omega (arith, size));
+            past = λ t l. h .counts-past e t (omega (arith, size));
+          })
 
--- what holds of the day that was read holds of the sheet planned alone
-pub read-alone : {own : List Refusal} {s : Sheet} {r : Reading} → ReadFrom own s r → r .number ≡ 0
+      go : (b : Bool) → d .held ≡ b → d .counts ≡ cond b (replicate maxSlots 0) (padded maxSlots (countsOf p))
+      go true e = h .no-counts e
+      go false e = planned e
+
+-- The day of a sheet that was read ----------------------------------------------------------
+
+-- what holds of the day that was read holds of the sheet's whole day under the same highs
+pub read-whole : {own : List Refusal} {s : Sheet} {r : Reading} → ReadFrom own s r → r .number ≡ 0 → (high : List ℕ) → length high ≡ r .slots
     → (P : (slots m : ℕ) → List Demand → (high : List ℕ) → Type 0)
-    → P (r .slots) (r .blowers) (demandsFrom (r .slots) (r .rations) (r .numbers)) (replicate (r .slots) (r .blowers))
-    → P (s .slots) (s .blowers) (left (alone s)) (room (alone s))
-unfolding fullHigh
-read-alone {own} {s} {r} h z P p =
-    subst (λ ds. P (s .slots) (s .blowers) ds (room (alone s))) (a .demands ∙ sym (left-alone s))
-    (subst (λ high. P (s .slots) (s .blowers) (demandsFrom (r .slots) (r .rations) (r .numbers)) high) (sym (room-alone s))
-    (subst (λ m. P (s .slots) m (demandsFrom (r .slots) (r .rations) (r .numbers)) (replicate (s .slots) m)) (a .blowers)
-    (subst (λ n. P n (r .blowers) (demandsFrom (r .slots) (r .rations) (r .numbers)) (replicate n (r .blowers))) (a .slots) p)))
+    → P (r .slots) (r .blowers) (demandsFrom (r .slots) (r .rations) (r .numbers)) high
+    → P (s .slots) (s .blowers) (left (wholeDay s high)) (room (wholeDay s high))
+read-whole {own} {s} {r} h z high each P p =
+    subst (λ ds. P (s .slots) (s .blowers) ds (room (wholeDay s high))) (a .demands ∙ sym (left-whole s high size))
+    (subst (λ x. P (s .slots) (s .blowers) (demandsFrom (r .slots) (r .rations) (r .numbers)) x) (sym (room-whole s high size))
+    (subst (λ m. P (s .slots) m (demandsFrom (r .slots) (r .rations) (r .numbers)) high) (a .blowers)
+    (subst (λ n. P n (r .blowers) (demandsFrom (r .slots) (r .rations) (r .numbers)) high) (a .slots) p)))
   where
     a : SheetRead s r
     a = sheet-read h z
 
-pub day-alone : {own : List Refusal} {s : Sheet} {r : Reading} → ReadFrom own s r → r .number ≡ 0 → {d : Day}
-    → DayPlanned d (r .slots) (r .blowers) (demandsFrom (r .slots) (r .rations) (r .numbers)) (replicate (r .slots) (r .blowers)) → DayOf (alone s) r d
-day-alone {s = s} h z {d} p =
-    day-of-whole (alone s) (alone-in-range s (read-values h z)) refl (read-is h z) (read-alone h z (DayPlanned d) p)
+    size : length high ≡ s .slots
+    size = each ∙ a .slots
+
+-- its day under highs
+pub day-under : {own : List Refusal} {s : Sheet} {r : Reading} → ReadFrom own s r → r .number ≡ 0 → {high H : List ℕ} → HighsOf (r .slots) (r .blowers) high H
+    → {d : Day} → DayUnder d (r .slots) (r .blowers) (demandsFrom (r .slots) (r .rations) (r .numbers)) H → DayOf (wholeDay s high) r d
+day-under {s = s} {r = r} h z {high} k {d} p =
+    let a = sheet-read h z in
+    day-of-whole (wholeDay s high)
+    (whole-in-range s high (k .each ∙ a .slots) (read-values h z) (λ t l. omega (arith, k .below t (omega (arith, a .slots)), a .blowers)))
+    refl (read-is h z) (read-whole h z high (k .each) (DayPlanned d) (p high k))
+
+-- Planned alone: the highs are all blowers in each slot --------------------------------------
+
+-- the highs of a reading are those of its sheet
+full-read : {own : List Refusal} {s : Sheet} {r : Reading} → ReadFrom own s r → r .number ≡ 0 → replicate (r .slots) (r .blowers) ≡ fullHigh s
+unfolding fullHigh
+full-read h z = let a = sheet-read h z in ap₂ replicate (a .slots) (a .blowers)
+
+pub highs-full : {slots m : ℕ} {H : List ℕ} → H ≡ padded maxSlots (replicate slots m) → HighsOf slots m (replicate slots m) H
+highs-full {slots} {m} e = record { each = length-replicate slots m; below = λ t l. omega (arith, getD-replicate slots t m 0 l); bytes = e }
+
+pub highs-alone : {own : List Refusal} {s : Sheet} {r : Reading} → ReadFrom own s r → r .number ≡ 0 → {H : List ℕ} → H ≡ padded maxSlots (replicate (r .slots) (r .blowers))
+    → HighsOf (r .slots) (r .blowers) (fullHigh s) H
+highs-alone {r = r} h z {H} e = subst (λ x. HighsOf (r .slots) (r .blowers) x H) (full-read h z) (highs-full e)
+
+pub read-alone : {own : List Refusal} {s : Sheet} {r : Reading} → ReadFrom own s r → r .number ≡ 0
+    → (P : (slots m : ℕ) → List Demand → (high : List ℕ) → Type 0)
+    → P (r .slots) (r .blowers) (demandsFrom (r .slots) (r .rations) (r .numbers)) (replicate (r .slots) (r .blowers))
+    → P (s .slots) (s .blowers) (left (alone s)) (room (alone s))
+read-alone {s = s} {r = r} h z P p =
+    read-whole h z (fullHigh s) (ap length (sym (full-read h z)) ∙ length-replicate (r .slots) (r .blowers)) P
+    (subst (P (r .slots) (r .blowers) (demandsFrom (r .slots) (r .rations) (r .numbers))) (full-read h z) p)

@@ -3,14 +3,15 @@ use mathlib.Core.Bool.{Bool, _&&_, _||_, not, cond}
 use mathlib.Core.List.{List}
 use Prim.Native.Nat.{ℕ}
 use lib.Dec.{ltb, eqb}
-use lib.ListN.{length}
+use lib.ListN.{length, replicate}
 use Rattle.common.specs.Lists.{same}
 use Rattle.checks.specs.declared.Refusal.{Refusal}
+use Rattle.checks.specs.Limits.{maxSlots}
 use Rattle.checks.specs.Refusals.{noPlacing}
 use Rattle.checks.specs.Sheet.{sheetOf, Sheet}
 use Rattle.checks.specs.Checks.{fault, firstRefusal, faults}
 use Rattle.checks.specs.CallChecks.{planningChecks, comparisonChecks}
-use Rattle.common.specs.Buffers.{over}
+use Rattle.common.specs.Buffers.{over, padded}
 use Rattle.plan_lines.specs.Sizes.{planBytes, placingWords}
 use Rattle.planning.specs.declared.Planned.{Planned}
 use Rattle.planning.specs.declared.Compared.{Compared}
@@ -61,6 +62,11 @@ listingAfter r listing old = cond (writes (r .number)) (over listing old) old
 -- a lent placing buffer afterwards, with these words: words after them keep their values
 unfoldable pub placingAfter : Refusal → (words old : List ℕ) → List ℕ
 placingAfter r words old = cond (writes (r .number)) (over words old) old
+
+-- the busy blowers of each of 96 slots: the counts of a plan, 0 past its last slot, and none at all where the sheet is
+-- refused, 12 too
+unfoldable pub busyAfter : Refusal → Problem → List ℕ
+busyAfter r p = cond (eqb (r .number) 0) (padded maxSlots (countsOf p)) (replicate maxSlots 0)
 
 -- Comparison ------------------------------------------------------------------
 

@@ -1,6 +1,7 @@
 // The planning calls. Each over a sheet's bytes reads them and hands the reading to the function that plans it; the
 // calls on records hand over a reading of their own.
 use crate::Planned;
+use crate::PlannedDay;
 use checks::refusals::NO_PLACING;
 use checks::refusals::SHORT_BUFFER;
 use listing::held;
@@ -14,13 +15,16 @@ ghost use mathlib.Core.Path.{_≡_};
 ghost use mathlib.Core.Bool.{false, _||_};
 ghost use Prim.Native.Nat.{_≤_};
 ghost use lib.Dec.{ltb};
-ghost use lib.ListN.{length};
+ghost use lib.ListN.{length, replicate};
+ghost use Rattle.common.specs.Buffers.{padded};
+ghost use Rattle.checks.specs.Limits.{maxSlots, maxBlowers};
 ghost use Rattle.checks.specs.Sheet.{sheetOf};
 ghost use Rattle.sheet.specs.OwnChecks.{SomeReading};
+ghost use Rattle.stretches.specs.Days.{SomeHighs};
 ghost use Rattle.plan_lines.specs.Sizes.{planBytes, placingWords};
 ghost use Rattle.planning.specs.Problem.{alone, listingOf, wordsFor};
 ghost use Rattle.planning.specs.Planning.{planRefusal, shortPlan, shortPlacing, listedAnswer, unlistedAnswer, listingAfter, placingAfter};
-ghost use Rattle.planning.specs.Contracts.{ReadSheet, DayFound, SomeDay, DayListed, NumberOf, ReadListed, ReadPlaced, ReadBoth, ReadNumbered};
+ghost use Rattle.planning.specs.Contracts.{ReadSheet, DayFound, DayFoundUnder, SomeDay, DayListed, NumberOf, ReadListed, ReadPlaced, HighsIfRead, ReadUnder, ReadBoth, ReadNumbered};
 
 // An answer of length 0: no listing was written.
 fn refuse(number: u32, line: u32) -> Planned
@@ -33,10 +37,20 @@ fn refuse(number: u32, line: u32) -> Planned
     }
 }
 
-// The day of an accepted sheet.
-pub fn day_of(sheet: Reading) -> Day
-    requires { ⌜ ReadSheet sheet ⌝ }
-    ensures { λ r. ⌜ DayFound sheet r ⌝ }
+// The highs of a sheet planned alone: all its blowers in each of its slots.
+fn full_highs(slots: u32, blowers: u32) -> [u8; 96]
+    requires { ⌜ (slots ≤ maxSlots) × (blowers ≤ maxBlowers) ⌝ }
+    ensures { λ r. ⌜ r ≡ padded maxSlots (replicate slots blowers) ⌝ }
+{
+    let mut highs = [0u8; 96];
+    placing::held::set_highs(&mut highs, slots as usize, blowers as u8);
+    highs
+}
+
+// The day of an accepted sheet under a high for each slot.
+fn day_under(sheet: Reading, highs: &[u8; 96]) -> Day
+    requires { ⌜ ReadSheet sheet × SomeHighs (sheet .slots) (sheet .blowers) (now highs) ⌝ }
+    ensures { λ r. ⌜ DayFoundUnder sheet (now (highs .entry)) r ⌝ }
 {
     let numbers = sheet.numbers;
     stretches::plan_day(
@@ -44,7 +58,17 @@ pub fn day_of(sheet: Reading) -> Day
         sheet.blowers as u8,
         sheet.rations as usize,
         &numbers,
+        highs,
     )
+}
+
+// The day of an accepted sheet.
+pub fn day_of(sheet: Reading) -> Day
+    requires { ⌜ ReadSheet sheet ⌝ }
+    ensures { λ r. ⌜ DayFound sheet r ⌝ }
+{
+    let highs = full_highs(sheet.slots, sheet.blowers);
+    day_under(sheet, &highs)
 }
 
 // Writes the listing of a day, planned or held, and answers its length.
@@ -122,29 +146,56 @@ pub fn plan_placing_of(sheet: Reading, placing: &mut [u64]) -> Planned
     refuse(number_of(day.held), 0)
 }
 
+// An answer where no day was planned: no blower is busy in any slot.
+fn refuse_day(number: u32, line: u32) -> PlannedDay
+    ensures { λ r. ⌜ r ≡ record { planned = record { number = number; line = line; length = 0 }; counts = replicate maxSlots 0 } ⌝ }
+{
+    PlannedDay {
+        planned: refuse(number, line),
+        counts: [0u8; 96],
+    }
+}
+
+// Plans a sheet that was read under a high for each slot, with both buffers lent.
+pub fn plan_under(
+    sheet: Reading,
+    highs: &[u8; 96],
+    listing: &mut [u8],
+    placing: &mut [u64],
+) -> PlannedDay
+    requires { ⌜ SomeReading sheet × HighsIfRead sheet (now highs) ⌝ }
+    ensures { λ r. ⌜ ReadUnder sheet (now (highs .entry)) (now (listing .entry)) (now (listing .exit)) (now (placing .entry)) (now (placing .exit)) r ⌝ }
+{
+    if sheet.number != 0 {
+        return refuse_day(sheet.number, sheet.line);
+    }
+    if listing.len() < PLAN_BYTES {
+        return refuse_day(SHORT_BUFFER, 0);
+    }
+    if is_short_placing(placing.len()) {
+        return refuse_day(SHORT_BUFFER, 0);
+    }
+    let day = day_under(sheet, highs);
+    let fed = day.fed;
+    placing_words::put_words(placing, &fed);
+    let length = list_day(sheet, day, listing);
+    let planned = Planned {
+        number: number_of(day.held),
+        line: 0,
+        length,
+    };
+    let counts = day.counts;
+    PlannedDay { planned, counts }
+}
+
 // With both buffers lent.
 pub fn plan_both_of(sheet: Reading, listing: &mut [u8], placing: &mut [u64]) -> Planned
     requires { ⌜ SomeReading sheet ⌝ }
     ensures { λ r. ⌜ ReadBoth sheet (now (listing .entry)) (now (listing .exit)) (now (placing .entry)) (now (placing .exit)) r ⌝ }
 {
-    if sheet.number != 0 {
-        return refuse(sheet.number, sheet.line);
-    }
-    if listing.len() < PLAN_BYTES {
-        return refuse(SHORT_BUFFER, 0);
-    }
-    if is_short_placing(placing.len()) {
-        return refuse(SHORT_BUFFER, 0);
-    }
-    let day = day_of(sheet);
-    let fed = day.fed;
-    placing_words::put_words(placing, &fed);
-    let length = list_day(sheet, day, listing);
-    Planned {
-        number: number_of(day.held),
-        line: 0,
-        length,
-    }
+    let highs = full_highs(sheet.slots, sheet.blowers);
+    let day = plan_under(sheet, &highs, listing, placing);
+    day.planned
 }
 
 // With no buffer lent: the number and the line alone.

@@ -1,6 +1,7 @@
 // The planning calls, for outsiders.
 //
-// What is planned is a problem (specs/Problem.antt); these calls plan a sheet alone, with every blower in every slot.
+// What is planned is a problem (specs/Problem.antt); these calls plan a sheet alone, with every blower in every slot,
+// and `plan_under` plans it under any highs, for the halls behind one limit.
 // What each answers, and what it leaves in the buffers lent to it, is stated in specs/Planning.antt. What is demanded
 // of these answers is in the crate `demands`.
 mod calls;
@@ -14,6 +15,7 @@ pub use calls::plan_placing;
 pub use calls::day_of;
 pub use calls::plan_both_of;
 pub use calls::plan_of;
+pub use calls::plan_under;
 
 // What a planning call answers: the length is that of the listing written, 0 where none is.
 #[repr(C)]
@@ -21,6 +23,13 @@ pub struct Planned {
     pub number: u32,
     pub line: u32,
     pub length: usize,
+}
+
+// What planning a sheet under highs gives: the answer, and the busy blowers of each slot, 0 in slots past the day and
+// in every slot where nothing is planned.
+pub struct PlannedDay {
+    pub planned: Planned,
+    pub counts: [u8; 96],
 }
 
 // What a comparison answers (crate `comparison`): whether the two sheets have the same day; no on a refusal.

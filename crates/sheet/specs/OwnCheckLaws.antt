@@ -1,10 +1,10 @@
 -- What a reading says of the checks and the sheet it was read from: the first refusal of a call that makes further
 -- checks after them, or values in range. The checks of a sheet's bytes, of flat numbers and of values alone are such
 -- checks. Assumes nothing.
-use mathlib.Core.Path.{_≡_, sym, ap, subst, _∙_}
+use mathlib.Core.Path.{_≡_, refl, sym, ap, subst, _∙_}
 use mathlib.Core.Bool.{Bool, true, false, not, _||_, cond}
 use mathlib.Core.List.{List, [], _∷_, _++_}
-use Prim.Native.Nat.{ℕ, suc, _*_, _%_}
+use Prim.Native.Nat.{ℕ, suc, _*_, _%_, _≤_}
 use native.Mathlib.Omega.{arith}
 use lib.Dec.{ltb, eqb}
 use lib.ListN.{length}
@@ -170,3 +170,15 @@ module _ {own : List Refusal} {s : Sheet} {r : Reading} (h : ReadFrom own s r) w
 
     pub read-values : ValuesInRange 1 s (length (s .jobs)) true
     read-values = h .checks .values read-none
+
+  -- refused or not, it has at most 96 slots and 8 blowers
+  pub read-small : (r .slots ≤ maxSlots) × (r .blowers ≤ maxBlowers)
+  unfolding readingFrom accepted refused
+  read-small = go (eqb (firstRefusal own .number) 0) refl (h .is)
+    where
+      go : (t : Bool) → eqb (firstRefusal own .number) 0 ≡ t → r ≡ cond t (accepted s) (refused (firstRefusal own))
+          → (r .slots ≤ maxSlots) × (r .blowers ≤ maxBlowers)
+      go true q e =
+          let v = h .checks .values (h .checks .numbered (eqb-true (firstRefusal own .number) 0 q)) in
+          (omega (arith, ap (λ x. x .slots) e, v .head .slots .le), omega (arith, ap (λ x. x .blowers) e, v .head .blowers .le))
+      go false q e = (omega (arith, ap (λ x. x .slots) e), omega (arith, ap (λ x. x .blowers) e))

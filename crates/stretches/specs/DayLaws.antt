@@ -3,9 +3,9 @@ use mathlib.Core.Path.{_≡_, refl, sym, ap, _∙_, subst}
 use mathlib.Core.Bool.{Bool, true, false, not, true≢false, false≢true}
 use mathlib.Core.List.{List}
 use Prim.Native.Nat.{ℕ, _≤_, _<_}
+use native.Mathlib.Omega.{arith}
 use lib.ListN.{length, getD, take, replicate, length-replicate}
 use Rattle.checks.specs.Limits.{maxSlots}
-use Rattle.common.specs.Buffers.{padded}
 use Rattle.schedules.specs.Schedules.{Demand}
 use Rattle.schedules.specs.Shortfall.{criticalSet}
 use Rattle.placing.specs.Represents.{Represents, Begun, CanBegin, markedLoads, markedHighs}
@@ -13,8 +13,9 @@ use Rattle.placing.specs.Rations.{Rations, demandsFrom}
 use Rattle.placing.specs.Words.{WindowWords, VolumeBytes}
 use Rattle.placing.specs.RationLaws.{length-demandsFrom}
 use Rattle.placing.specs.FeasibilitySteps.{demand-words, ration-words, some-short, can-begin, high-words}
-use Rattle.common.specs.FillLaws.{padded-past}
-use Rattle.placing.specs.HeldSteps.{full-words, length-full, highs-capacity}
+use Rattle.common.specs.BufferLaws.{length-padded}
+use Rattle.common.specs.FillLaws.{getD-padded, padded-past}
+use Rattle.placing.specs.HeldSteps.{highs-capacity}
 use Rattle.feedings.specs.CellChoice.{Feedable}
 use Rattle.feedings.specs.ExactlyLaws.{represents-feedable}
 use Rattle.stretches.specs.declared.Day.{Day}
@@ -23,8 +24,8 @@ use Rattle.method.specs.Slotwise.{settleEach}
 use Rattle.stretches.specs.Settling.{Under, SomeDay, AllSettled}
 use Rattle.stretches.specs.SettlingLaws.{under-possible}
 use Rattle.feedings.specs.FeedingCalls.{CanChoose, Chose}
-use Rattle.method.specs.Theorems.{settleAll-is-slotwise, low-is-high, day-high}
-use Rattle.stretches.specs.Days.{CanChooseDay, DayChosen, DayPlanned, CanPlan, WordsPlanned}
+use Rattle.method.specs.Theorems.{settleAll-is-slotwise, low-is-high}
+use Rattle.stretches.specs.Days.{CanChooseDay, DayChosen, DayPlanned, CanPlan, WordsPlanned, HighsOf}
 
 -- ---- `choose_day`
 
@@ -144,20 +145,23 @@ module _ {slots rations : ℕ} (m : ℕ) {W N H : List ℕ} (p : CanPlan slots r
 -- ---- `plan_day`
 
 module _ {slots rations : ℕ} (m : ℕ) {numbers W N H : List ℕ} (r : Rations slots rations numbers)
-    (h : H ≡ padded maxSlots (replicate slots m)) (w : WindowWords slots (demandsFrom slots rations numbers) W)
-    (v : VolumeBytes (demandsFrom slots rations numbers) N) where
+    (w : WindowWords slots (demandsFrom slots rations numbers) W) (v : VolumeBytes (demandsFrom slots rations numbers) N)
+    {high : List ℕ} (h : HighsOf slots m high H) where
   pub can-plan-day : CanPlan slots rations W N H
   can-plan-day =
       record {
         day = ration-words r w v;
         few = r .few;
-        highs = length-full slots m (r .short) h;
-        past = λ t l.
-            ap (λ x. getD x t 0) h ∙ padded-past maxSlots (replicate slots m) t (rw (length-replicate slots m) l);
+        highs = ap length (h .bytes) ∙ length-padded maxSlots high (omega (arith, h .each, r .short));
+        past = λ t l. ap (λ x. getD x t 0) (h .bytes) ∙ padded-past maxSlots high t (omega (arith, h .each));
       }
 
   pub day-planned : {d : Day} → WordsPlanned d slots m rations W N H
-      → DayPlanned d slots m (demandsFrom slots rations numbers) (replicate slots m)
+      → DayPlanned d slots m (demandsFrom slots rations numbers) high
   day-planned p =
-      p (demandsFrom slots rations numbers) (replicate slots m) (demand-words r w v) (full-words slots m (r .short) h)
-      (length-demandsFrom slots rations numbers) (day-high slots m)
+      p (demandsFrom slots rations numbers) high (demand-words r w v)
+      (record {
+        long = h .each;
+        same = λ t l. ap (λ x. getD x t 0) (h .bytes) ∙ getD-padded maxSlots high t (omega (arith, h .each));
+      })
+      (length-demandsFrom slots rations numbers) (h .below)

@@ -5,6 +5,7 @@ use mathlib.Core.Bool.{true, false, not}
 use mathlib.Core.List.{List}
 use Prim.Native.Nat.{ℕ, _≤_, _<_}
 use lib.ListN.{length, getD, replicate}
+use Rattle.common.specs.Buffers.{padded}
 use Rattle.checks.specs.Limits.{maxSlots, maxRations}
 use Rattle.schedules.specs.Schedules.{Demand, feasible}
 use Rattle.schedules.specs.Shortfall.{forced, capacity, criticalSet}
@@ -68,3 +69,18 @@ abbrev pub WordsPlanned : (r : Day) (slots m rations : ℕ) (W N H : List ℕ) �
 WordsPlanned r slots m rations W N H =
     (ds : List Demand) (high : List ℕ) → DemandWords slots ds W N → HighWords slots high H → length ds ≡ rations
     → ((t : ℕ) → t < slots → getD high t 0 ≤ m) → DayPlanned r slots m ds high
+
+-- H has the highs of a day of m blowers: these, none of them above m, and 0 past the day
+pub record HighsOf (slots m : ℕ) (high H : List ℕ) : Type 0 where
+  pub each : length high ≡ slots
+  pub below : (t : ℕ) → t < slots → getD high t 0 ≤ m
+  pub bytes : H ≡ padded maxSlots high
+
+-- it has some highs of such a day
+pub record SomeHighs (slots m : ℕ) (H : List ℕ) : Type 0 where
+  pub high : List ℕ
+  pub are : HighsOf slots m high H
+
+-- what `plan_day` ensures: under whatever highs H has, the day of these demands is planned
+abbrev pub DayUnder : (r : Day) (slots m : ℕ) → List Demand → (H : List ℕ) → Type 0
+DayUnder r slots m ds H = (high : List ℕ) → HighsOf slots m high H → DayPlanned r slots m ds high

@@ -6,8 +6,8 @@
 // one slot more at a time settles the longest runs of document 01 is a theorem (specs/Theorems.antt of `method`).
 // Which rations are fed is chosen by crate `feedings`.
 //
-// `plan_words` plans any windows, volumes and highs, and `plan_day` a sheet's rations with every blower in every
-// slot. For the layers above: the functions ask for words of some demands, or for rations and counts in range.
+// `plan_words` plans any windows, volumes and highs, and `plan_day` a sheet's rations under any highs. For the layers
+// above: the functions ask for words of some demands, or for rations and counts in range.
 mod intervals;
 mod planning;
 mod settle;

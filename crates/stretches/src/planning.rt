@@ -4,9 +4,8 @@ use crate::settle;
 use placing::begin;
 use placing::held;
 use placing::windows;
-ghost use lib.ListN.{replicate};
 ghost use Rattle.placing.specs.Rations.{Rations, demandsFrom};
-ghost use Rattle.stretches.specs.Days.{CanChooseDay, DayChosen, DayPlanned, CanPlan, WordsPlanned};
+ghost use Rattle.stretches.specs.Days.{CanChooseDay, DayChosen, CanPlan, WordsPlanned, SomeHighs, DayUnder};
 
 // Settles the blowers and chooses the feedings, from words that hold a sound placing; gives the counts.
 fn choose_day(
@@ -90,16 +89,19 @@ pub fn plan_words(
     }
 }
 
-// Plans a day of rations in flat numbers, with every blower in every slot.
-pub fn plan_day(slots: usize, blowers: u8, rations: usize, numbers: &[u32; 256]) -> Day
-    requires { ⌜ Rations slots rations (now numbers) ⌝ }
-    ensures { λ r. ⌜ DayPlanned r slots blowers (demandsFrom slots rations (now (numbers .entry)))
-        (replicate slots blowers) ⌝ }
+// Plans a day of rations in flat numbers, under a high for each slot: at most the blowers, and 0 past the day.
+pub fn plan_day(
+    slots: usize,
+    blowers: u8,
+    rations: usize,
+    numbers: &[u32; 256],
+    highs: &[u8; 96],
+) -> Day
+    requires { ⌜ Rations slots rations (now numbers) × SomeHighs slots blowers (now highs) ⌝ }
+    ensures { λ r. ⌜ DayUnder r slots blowers (demandsFrom slots rations (now (numbers .entry))) (now (highs .entry)) ⌝ }
 {
     let mut words = [0u64; 96];
     windows::mark_windows(&mut words, rations, numbers);
     let volumes = windows::volumes_of(rations, numbers);
-    let mut high = [0u8; 96];
-    held::set_highs(&mut high, slots, blowers);
-    plan_words(slots, blowers, rations, &words, &volumes, &high)
+    plan_words(slots, blowers, rations, &words, &volumes, highs)
 }

@@ -1,26 +1,23 @@
 -- `planning::calls::day_of` meets its contract. Assumes nothing.
-use Rattle.placing.specs.ReadLaws.{sheet-read}
-use Rattle.planning.specs.DayLaws.{day-alone}
-use native.Mathlib.Omega.{arith}
-use borrow.Author.Needs.{needs}
+use Rattle.schedules.specs.Demands.{fullHigh}
+use Rattle.sheet.specs.OwnCheckLaws.{read-small}
+use Rattle.planning.specs.DayLaws.{highs-full, highs-alone}
 use Rattle.planning.proofs.calls.day_of.Statement.{statement}
 use Rattle.planning.proofs.calls.day_of.Tie as tie
 
-cast-plan-day : tie.Need-cast-plan-day
-cast-plan-day c = search needs
+full-highs-requires : tie.Need-full-highs-requires
+full-highs-requires c κs = read-small (c .pre .some .read)
 
-cast-plan-day-2 : tie.Need-cast-plan-day-2
-cast-plan-day-2 c = let r = c .before .before .before .pre in omega (arith, sheet-read (r .some .read) (r .zero) .blown)
-
-cast-plan-day-3 : tie.Need-cast-plan-day-3
-cast-plan-day-3 c = search needs
-
-plan-day-requires : tie.Need-plan-day-requires
-plan-day-requires c κs = let r = c .before .before .before .before .before .pre in sheet-read (r .some .read) (r .zero) .rations
+day-under-requires : tie.Need-day-under-requires
+day-under-requires c κs = (c .before .before .pre, record { high = _; are = highs-full (c .before .full-highs .ensures) })
 
 returns : tie.Need-returns
-returns c = λ own s h z. day-alone h z (c .plan-day .ensures)
+returns c = λ own s h z. c .day-under .ensures own s h z (fullHigh s) (highs-alone h z (c .before .before .full-highs .ensures))
 
 pub day-of-spec : {M : Type 1} → statement M
 day-of-spec =
-    tie.close (tie.spec cast-plan-day cast-plan-day-2 cast-plan-day-3 plan-day-requires returns)
+    tie.close
+    (tie.spec
+    full-highs-requires
+    day-under-requires
+    returns)
