@@ -5,7 +5,7 @@
 // and then a length.
 mod causing;
 mod comparing;
-mod halls;
+mod hall_plans;
 mod placings;
 mod plans;
 mod sheets;
