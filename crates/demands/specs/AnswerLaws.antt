@@ -154,6 +154,17 @@ module _ {own : List Refusal} {s : Sheet} (checks : OwnChecks own s) (p : Proble
           held-as-grid = λ e. subst (λ words. SameFeedings words (replicate gridBytes 0)) (sym (held-words e (room (number-twelve e .1)) .1)) no-feedings;
         }
 
+-- with both buffers lent
+module _ {own : List Refusal} {s : Sheet} (checks : OwnChecks own s) (p : Problem) (in-range : ValuesInRange 1 s (length (s .jobs)) true → ProblemInRange p) where
+  pub both-planned : (listing placing : List ℕ) → let r = firstRefusal (planChecks own (shortPlan listing || shortPlacing placing) p) in
+      PlanBuffer p (r .number) (listedAnswer r (listingOf p) .length) listing (listingAfter r (listingOf p) listing)
+      × PlacingBuffer p (r .number) placing (placingAfter r (wordsFor p) placing)
+  both-planned listing placing =
+      let short = shortPlan listing || shortPlacing placing in (
+        plan-buffer checks p in-range short listing (λ e. long-plan listing (or-false (shortPlan listing) (shortPlacing placing) e .0)),
+        placing-buffer checks p in-range short placing (λ e. long-placing placing (or-false (shortPlan listing) (shortPlacing placing) e .1)),
+      )
+
 -- whatever the checks of its sheet alone are, the answer is the first check that applies
 module _ {own : List Refusal} {s : Sheet} (checks : OwnChecks own s) where
   pub first-planned : (p : Problem) (short : Bool) → let r = firstRefusal (planChecks own short p) in FirstOf (planChecks own short p) (r .number) (r .line)
@@ -182,11 +193,7 @@ module _ {own : List Refusal} {s : Sheet} (checks : OwnChecks own s) where
   pub both-alone : (listing placing : List ℕ) → let r = firstRefusal (planChecks own (shortPlan listing || shortPlacing placing) p) in
       PlanBuffer p (r .number) (listedAnswer r (listingOf p) .length) listing (listingAfter r (listingOf p) listing)
       × PlacingBuffer p (r .number) placing (placingAfter r (wordsFor p) placing)
-  both-alone listing placing =
-      let short = shortPlan listing || shortPlacing placing in (
-        plan-buffer checks p (alone-in-range s) short listing (λ e. long-plan listing (or-false (shortPlan listing) (shortPlacing placing) e .0)),
-        placing-buffer checks p (alone-in-range s) short placing (λ e. long-placing placing (or-false (shortPlan listing) (shortPlacing placing) e .1)),
-      )
+  both-alone = both-planned checks p (alone-in-range s)
 
 -- where none of the checks of the sheet alone applies, it is a problem in range
 pub bytes-in-range : (b : List ℕ) → faults b ≡ [] → ProblemInRange (alone (sheetOf b))

@@ -9,21 +9,22 @@
 -- and speaks of what the call's contract says that it answers and leaves; Answers.antt has the sentences of document
 -- 01. A list that a call only reads can't change, and is not spoken of. Assumes nothing.
 use mathlib.Core.Path.{_≡_, refl, sym, ap, _∙_}
+use mathlib.Core.Logic.{_⊎_}
 use mathlib.Core.Bool.{false, _||_, not}
-use mathlib.Core.List.{List, [], _++_}
+use mathlib.Core.List.{List, [], _∷_, _++_}
 use Prim.Native.Nat.{ℕ, suc, _*_, _≤_, _<_}
 use native.Mathlib.Omega.{arith}
 use lib.Dec.{ltb, eqb}
 use lib.IntN.{pos}
-use lib.ListN.{length, replicate}
+use lib.ListN.{length, take, replicate}
 use Rattle.common.specs.Lists.{count}
 use Rattle.lookup.specs.declared.Part.{Part}
 use Rattle.line.specs.Layout.{lineBytes, fields}
 use Rattle.checks.specs.Limits.{maxBytes, maxRations}
 use Rattle.checks.specs.Refusals.{badLength, badForm, shortBuffer}
 use Rattle.checks.specs.Sheet.{Sheet, sheetOf, sheetFrom, writeSheet}
-use Rattle.checks.specs.Checks.{fault, valueFaults, faults}
-use Rattle.checks.specs.CallChecks.{writeChecks, questionChecks, comparisonChecks}
+use Rattle.checks.specs.Checks.{fault, outside, valueFaults, faults}
+use Rattle.checks.specs.CallChecks.{writeChecks, questionChecks, comparisonChecks, hallsChecks}
 use Rattle.sheet.specs.Calls.{refused, readingOf, writeRefusal, writtenOf, bufferAfter, writeRefusalFor}
 use Rattle.lookup.specs.LookUp.{lookUp, placeOf}
 use Rattle.practice.specs.Practice.{practiceSheet, practiceRefusal, seedInput}
@@ -41,6 +42,7 @@ use Rattle.planning.specs.Problem.{alone, canBePlanned, shownSet, heldListing, 
 use Rattle.planning.specs.Planning.{heldFaults, planChecks, planRefusal, shortPlan, shortPlacing, listedAnswer, unlistedAnswer, listingAfter, placingAfter, compareRefusal, sameDay, comparedOf, planRefusalFor}
 use Rattle.planning.specs.AloneLaws.{held-alone}
 use Rattle.causes.specs.CauseCalls.{endingsOf, shortCauses, causesAnswer, causesAfter}
+use Rattle.halls.specs.Halls.{Hall, four, hallsFaults, nothing, outcomeOf, hallsAnswer}
 use Rattle.program.specs.Program.{explanationOf}
 use Rattle.program.specs.Theorems.{program-front}
 use Rattle.program.specs.Theorems as Program
@@ -48,9 +50,11 @@ use Rattle.records.specs.declared.Ration.{Ration}
 use Rattle.records.specs.Records.{recordSheet, recordFaults}
 use Rattle.demands.specs.Answers.{FirstOf, NotZero, ShortfallOf, YesFor, NoLineOf, PlanBuffer, PlacingBuffer, CausesListed, CausesBuffer, SheetBuffer, programText, whyText, practiceText, ProgramText}
 use Rattle.demands.specs.Outcome.{AloneIs}
+use Rattle.demands.specs.Halls.{hallIn, answerIn, problemIn, HallIs, HallAnswer}
 use Rattle.demands.specs.AnswerLaws.{alone-is, first-of, numbered-one, numbered-compared, first-alone, buffer-alone, placing-alone, both-alone, first-asked, zero-unless, no-unless, shortfall-is, yes-for, sheet-buffer, room-sheet, write-room, read-first, read-nothing, records-checked, program-text}
 use Rattle.demands.specs.CausesLaws.{causes-listed, causes-buffer, causes-room, why-front, why-causes, why-refused}
 use Rattle.demands.specs.PracticeLaws.{practice-taken, practice-refused}
+use Rattle.demands.specs.HallsLaws.{first-halls, halls-kept, halls-answered, halls-earlier, halls-without, hall-alone, hall-is}
 
 pub record DemandOne : Type 0 where
   -- Sheets: the checks 1 to 9 and 13 of bytes, 3 to 9 and 13 of values, 10 where a sheet is written --------
@@ -105,6 +109,28 @@ pub record DemandOne : Type 0 where
   pub compare : (a b : List ℕ) → let r = comparedOf a b in
       FirstOf (comparisonChecks (faults a) (not (canBePlanned (alone (sheetOf a)))) (faults b) (not (canBePlanned (alone (sheetOf b))))) (r .number) (r .line)
       × (NotZero (r .number) → r .same ≡ false)
+  -- Halls: 14 before all sheets; then each hall has the checks of a planning call, under its own highs ------------
+
+  -- with 14, and for a hall that is not there: zeros, and buffers as they were
+  pub plan-halls : (limit halls : ℕ) (a b c d : Hall) → let hs = four a b c d in let r = hallsAnswer limit halls hs in
+      FirstOf (hallsChecks (outside 1 32 limit) (outside 1 4 halls)) (r .number) (r .line)
+      × ((i : ℕ) → i < 4 → (NotZero (r .number) ⊎ (halls ≤ i)) → (answerIn r i ≡ nothing) × (outcomeOf limit halls hs i .buffers ≡ hallIn hs i .buffers))
+      × (r .number ≡ 0 → (i : ℕ) → i < halls → HallAnswer (problemIn limit hs i) (hallIn hs i) (answerIn r i) (outcomeOf limit halls hs i .buffers))
+  -- what is answered for a hall, and left in its buffers, depends on it and the halls before it alone
+  pub halls-earlier : (limit halls : ℕ) (hs ks : List Hall) (i : ℕ) → i < 4 → take (suc i) hs ≡ take (suc i) ks
+      → (answerIn (hallsAnswer limit halls hs) i ≡ answerIn (hallsAnswer limit halls ks) i)
+      × (outcomeOf limit halls hs i .buffers ≡ outcomeOf limit halls ks i .buffers)
+  -- a hall h that is refused, by whatever number, leaves the halls after it as if it were not there
+  pub halls-without : (limit n : ℕ) → hallsFaults limit n ≡ [] → hallsFaults limit (suc n) ≡ [] → (xs : List Hall) (h : Hall) (ys : List Hall) → length xs ≤ n
+      → NotZero (answerIn (hallsAnswer limit (suc n) (xs ++ (h ∷ ys))) (length xs) .number) → (j : ℕ) → length xs ≤ j → j < n
+      → (answerIn (hallsAnswer limit (suc n) (xs ++ (h ∷ ys))) (suc j) ≡ answerIn (hallsAnswer limit n (xs ++ ys)) j)
+      × (outcomeOf limit (suc n) (xs ++ (h ∷ ys)) (suc j) .buffers ≡ outcomeOf limit n (xs ++ ys) j .buffers)
+  -- one hall under a limit of at least its blowers has the answer and the buffers of `plan-both`
+  pub hall-alone : (limit : ℕ) → hallsFaults limit 1 ≡ [] → (h : Hall) (hs : List Hall) → sheetOf (h .bytes) .blowers ≤ limit
+      → let p = alone (sheetOf (h .bytes)) in let r = planRefusal (h .bytes) (shortPlan (h .buffers .listing) || shortPlacing (h .buffers .placing)) in
+      (answerIn (hallsAnswer limit 1 (h ∷ hs)) 0 ≡ listedAnswer r (listingOf p))
+      × (outcomeOf limit 1 (h ∷ hs) 0 .buffers .listing ≡ listingAfter r (listingOf p) (h .buffers .listing))
+      × (outcomeOf limit 1 (h ∷ hs) 0 .buffers .placing ≡ placingAfter r (wordsFor p) (h .buffers .placing))
   -- Causes: the checks of a planning call, with 10 for a buffer under 65,536 bytes; on 12 the buffer is as it was
   pub causes : (b out : List ℕ) → let p = alone (sheetOf b) in let short = shortCauses out in
       let r = planRefusal b short in let a = causesAnswer r (endingsOf p) in
@@ -153,11 +179,13 @@ pub record DemandOne : Type 0 where
   pub alone-is : (s : Sheet) → AloneIs s
   -- where it is held, the listing has Q, what its rations force into Q, and |Q| × m
   pub held-is : (s : Sheet) → let q = shownSet (alone s) in heldListing (alone s) ≡ heldText q (forced (demandsOf s) q) (count q * s .blowers)
+  -- a hall: its rations, and in each slot the smaller of its own blowers and the limit less what earlier halls use
+  pub hall-is : (limit : ℕ) (used : List ℕ) (h : Hall) → HallIs limit used h
 
 -- The theorem -------------------------------------------------------------------------------------
 
 pub demand-one : DemandOne
-unfolding planRefusal listedAnswer unlistedAnswer causesAnswer writeRefusal writeRefusalFor practiceRefusal writtenOf shortfallOf marksRefusal boundsOf boundsRefusal shortfallFor boundsFor comparedOf compareRefusal refused
+unfolding hallsFaults hallsAnswer planRefusal listedAnswer unlistedAnswer causesAnswer writeRefusal writeRefusalFor practiceRefusal writtenOf shortfallOf marksRefusal boundsOf boundsRefusal shortfallFor boundsFor comparedOf compareRefusal refused
 demand-one =
     record {
       read = λ b. (
@@ -236,4 +264,13 @@ demand-one =
       practice-program = (practice-taken, practice-refused);
       alone-is = alone-is;
       held-is = held-alone;
+      plan-halls = λ limit halls a b c d. (
+        first-halls limit halls,
+        halls-kept limit halls a b c d,
+        halls-answered limit halls a b c d,
+      );
+      halls-earlier = halls-earlier;
+      halls-without = halls-without;
+      hall-alone = hall-alone;
+      hall-is = hall-is;
     }

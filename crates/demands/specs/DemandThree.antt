@@ -12,14 +12,15 @@ use mathlib.Core.Path.{_≡_, refl, sym, subst, _∙_}
 use mathlib.Core.Logic.{_⊎_, _↔_}
 use mathlib.Core.Bool.{false, _||_}
 use mathlib.Core.List.{List, []}
-use Prim.Native.Nat.{ℕ, suc, _*_, _≤_}
+use Prim.Native.Nat.{ℕ, suc, _*_, _≤_, _<_}
 use native.Mathlib.Omega.{arith}
-use lib.ListN.{length, take}
+use lib.ListN.{length, getD, take}
 use Rattle.line.specs.Layout.{lineBytes}
 use Rattle.checks.specs.Refusals.{noPlacing}
 use Rattle.checks.specs.Sheet.{Sheet, sheetOf}
 use Rattle.checks.specs.Checks.{faults}
 use Rattle.sheet.specs.Calls.{writtenOf, bufferAfter}
+use Rattle.theory.specs.Sums.{sum}
 use Rattle.practice.specs.Practice.{practiceSheet, practiceRefusal, seedInput}
 use Rattle.plan_lines.specs.Sizes.{planBytes, placingWords, causesBytes}
 use Rattle.planning.specs.Problem.{alone, MayPlace, listingOf, wordsFor}
@@ -29,6 +30,7 @@ use Rattle.planning.specs.CallAnswers.{room-plan, room-placing, neither}
 use Rattle.causes.specs.CauseCalls.{endingsOf, shortCauses, causesAnswer, causesAfter}
 use Rattle.causes.specs.ReadCauses.{entriesIn, writtenCauses}
 use Rattle.causes.specs.CauseAnswers.{room-causes}
+use Rattle.halls.specs.Halls.{Hall, four, hallProblem, usedBefore, outcomeOf, hallsAnswer}
 use Rattle.program.specs.Program.{explanationOf}
 use Rattle.program.specs.Theorems.{program-writes, program-front}
 use Rattle.records.specs.declared.Ration.{Ration}
@@ -36,9 +38,11 @@ use Rattle.records.specs.Records.{recordSheet, recordFaults}
 use Rattle.demands.specs.Answers.{programText, whyText, practiceText}
 use Rattle.demands.specs.Outcome.{AloneIs, NoneSound, PlannedOrHeld, Outcome, placingIn, SamePlacing}
 use Rattle.demands.specs.Causes.{CausesShown}
+use Rattle.demands.specs.Halls.{hallIn, answerIn, problemIn, HallIs, busyIn}
 use Rattle.demands.specs.AnswerLaws.{bytes-in-range, records-in-range, alone-is}
 use Rattle.demands.specs.OutcomeLaws.{written-listing, outcome-of, marks-of, high-alone}
 use Rattle.demands.specs.PracticeLaws.{of-practice, practice-written, practice-taken}
+use Rattle.demands.specs.HallsLaws.{halls-outcome, hall-is, used-is, within-limit}
 use Rattle.demands.specs.ComparisonLaws.{comparison-held-iff}
 use Rattle.demands.specs.CausesLaws.{shown-causes, planned, call-shown, why-front, why-causes, why-refused}
 
@@ -79,6 +83,20 @@ pub record DemandThree : Type 0 where
   -- planned and that holds of the second
   pub compare : (a b : List ℕ) → let p = alone (sheetOf a) in let q = alone (sheetOf b) in
       (comparedOf a b .number ≡ noPlacing) ↔ ((faults a ≡ []) × (NoneSound p ⊎ ((¬ NoneSound p) × (faults b ≡ []) × NoneSound q)))
+  -- Halls -----------------------------------------------------------------------------------------
+
+  -- a hall that is there is held exactly where no placing is sound under the highs that the halls before it leave; the
+  -- sum of high that it prints is over these
+  pub plan-halls : (limit halls : ℕ) (a b c d : Hall) → let hs = four a b c d in let r = hallsAnswer limit halls hs in
+      r .number ≡ 0 → (i : ℕ) → i < halls → let h = hallIn hs i in let p = problemIn limit hs i in let x = answerIn r i in let o = outcomeOf limit halls hs i .buffers in
+      faults (h .bytes) ≡ [] → planBytes ≤ length (h .buffers .listing) → placingWords ≤ length (h .buffers .placing) →
+      Outcome p (x .number) (written x (o .listing)) × (x .number ≡ 0 → SamePlacing (sheetOf (h .bytes)) (written x (o .listing)) (o .placing))
+  pub hall-is : (limit : ℕ) (used : List ℕ) (h : Hall) → HallIs limit used h
+  -- what the halls before one use in a slot is what their listings show there, and over all halls that is at most the
+  -- limit
+  pub halls-used : (limit halls : ℕ) (a b c d : Hall) → let hs = four a b c d in let r = hallsAnswer limit halls hs in r .number ≡ 0 → (t : ℕ) → t < 96 →
+      let shown : ℕ → ℕ = λ j. busyIn (hallIn hs j) (answerIn r j) (outcomeOf limit halls hs j .buffers .listing) t in
+      ((i : ℕ) → i ≤ halls → getD (usedBefore limit hs i) t 0 ≡ sum i shown) × (sum halls shown ≤ limit)
   -- Rations lent as records -----------------------------------------------------------------------
 
   pub plan-rations : (slots blowers wake : ℕ) (rations : List Ration) (listing : List ℕ) → let s = recordSheet slots blowers wake rations in let p = alone s in
@@ -132,7 +150,7 @@ program-outcome b formed =
     outcome-of formed _ g false refl (programText b) (program-front b ∙ program-writes b formed [] ∙ written-listing formed _ g false refl [])
 
 pub demand-three : DemandThree
-unfolding planRefusal listedAnswer unlistedAnswer causesAnswer
+unfolding hallsAnswer hallProblem planRefusal listedAnswer unlistedAnswer causesAnswer
 demand-three =
     record {
       plan = plan-outcome;
@@ -165,6 +183,9 @@ demand-three =
       practice-program = λ seed h.
           of-practice seed (λ b t. Outcome (alone t) (planRefusal b false .number) (programText b)) program-outcome (practice-taken seed h);
       compare = comparison-held-iff;
+      plan-halls = halls-outcome;
+      hall-is = hall-is;
+      halls-used = λ limit halls a b c d z t k. (used-is limit halls a b c d z t k, within-limit limit halls a b c d z t k);
       plan-rations = λ slots blowers wake rations listing formed l.
           let g = records-in-range (recordSheet slots blowers wake rations) formed in
           let e = room-plan listing l in

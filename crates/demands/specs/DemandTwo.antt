@@ -11,7 +11,7 @@ use mathlib.Core.Path.{_≡_, refl, sym, ap, subst, _∙_}
 use mathlib.Core.Logic.{_↔_}
 use mathlib.Core.Bool.{true, false, _||_}
 use mathlib.Core.List.{List, []}
-use Prim.Native.Nat.{ℕ, suc, _*_, _≤_}
+use Prim.Native.Nat.{ℕ, suc, _*_, _≤_, _<_}
 use lib.ListN.{length, take}
 use Rattle.line.specs.Layout.{fields, lineBytes}
 use Rattle.checks.specs.Sheet.{Sheet, sheetOf, numbersOf, sheetFrom}
@@ -31,6 +31,7 @@ use Rattle.planning.specs.ProblemLaws.{may-planned}
 use Rattle.causes.specs.CauseCalls.{endingsOf, shortCauses, causesAnswer, causesAfter}
 use Rattle.causes.specs.ReadCauses.{entriesIn, writtenCauses}
 use Rattle.causes.specs.CauseAnswers.{room-causes}
+use Rattle.halls.specs.Halls.{Hall, four, hallProblem, outcomeOf, hallsAnswer}
 use Rattle.program.specs.Program.{explanationOf}
 use Rattle.program.specs.Theorems.{program-writes, program-front}
 use Rattle.records.specs.declared.Ration.{Ration}
@@ -39,10 +40,12 @@ use Rattle.demands.specs.Answers.{programText, whyText, practiceText, Va
 use Rattle.demands.specs.Outcome.{AloneIs, placingIn}
 use Rattle.demands.specs.ByMethod.{HasPlacing, settled, runsOf, ChosenByMethod, ByMethod}
 use Rattle.demands.specs.Causes.{CausesByMethod}
+use Rattle.demands.specs.Halls.{hallIn, answerIn, problemIn, HallIs}
 use Rattle.demands.specs.AnswerLaws.{bytes-in-range, records-in-range, alone-is}
 use Rattle.demands.specs.ByMethodLaws.{number-is, listed-by-method, marked-by-method, both-planned, same-day, as-worded, runs-worded}
 use Rattle.demands.specs.CausesLaws.{by-method-causes, call-by-method, why-front, why-causes}
 use Rattle.demands.specs.PracticeLaws.{of-practice, practice-number, practice-written, practice-taken}
+use Rattle.demands.specs.HallsLaws.{halls-by-method, hall-is}
 use Rattle.demands.specs.RoundTripLaws.{values-read, read-again, rations-read-again, values-again, rations-again}
 
 pub record DemandTwo : Type 0 where
@@ -67,6 +70,12 @@ pub record DemandTwo : Type 0 where
   pub causes : (b out : List ℕ) → let p = alone (sheetOf b) in faults b ≡ [] → HasPlacing p → causesBytes ≤ length out →
       let r = planRefusal b (shortCauses out) in let a = causesAnswer r (endingsOf p) in
       (a .number ≡ 0) × CausesByMethod p (a .cut) (entriesIn (writtenCauses a (causesAfter r (endingsOf p) out)))
+  -- a hall that is there: by the method under the highs that the halls before it leave
+  pub plan-halls : (limit halls : ℕ) (a b c d : Hall) → let hs = four a b c d in let r = hallsAnswer limit halls hs in
+      r .number ≡ 0 → (i : ℕ) → i < halls → let h = hallIn hs i in let p = problemIn limit hs i in let x = answerIn r i in let o = outcomeOf limit halls hs i .buffers in
+      faults (h .bytes) ≡ [] → HasPlacing p → planBytes ≤ length (h .buffers .listing) → placingWords ≤ length (h .buffers .placing) →
+      (x .number ≡ 0) × ByMethod p (linesOf (written x (o .listing))) × ChosenByMethod p (placingIn (sheetOf (h .bytes)) (o .placing))
+  pub hall-is : (limit : ℕ) (used : List ℕ) (h : Hall) → HallIs limit used h
   -- Planning rations lent as records --------------------------------------------------------------
 
   pub plan-rations : (slots blowers wake : ℕ) (rations : List Ration) (listing : List ℕ) → let s = recordSheet slots blowers wake rations in let p = alone s in
@@ -146,7 +155,7 @@ program-by-method b formed has =
     (listed-by-method formed _ (bytes-in-range b formed) has false refl [])
 
 pub demand-two : DemandTwo
-unfolding planRefusal listedAnswer unlistedAnswer causesAnswer comparedOf
+unfolding hallsAnswer hallProblem planRefusal listedAnswer unlistedAnswer causesAnswer comparedOf
 demand-two =
     record {
       plan = plan-by-method;
@@ -168,6 +177,8 @@ demand-two =
           let e = room-causes out l in
           let z = number-is formed _ g has (shortCauses out) e in
           (z, call-by-method formed _ g refl (shortCauses out) e z out);
+      plan-halls = λ limit halls a b c d z i l formed has m k. halls-by-method limit halls a b c d z i l formed m k has;
+      hall-is = hall-is;
       plan-rations = λ slots blowers wake rations listing formed has l.
           let g = records-in-range (recordSheet slots blowers wake rations) formed in
           let e = room-plan listing l in

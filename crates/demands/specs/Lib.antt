@@ -11,6 +11,7 @@ pub mod Answers
 pub mod Outcome
 pub mod ByMethod
 pub mod Causes
+pub mod Halls
 -- Laws
 pub mod AnswerLaws
 pub mod OutcomeLaws
@@ -19,3 +20,4 @@ pub mod RoundTripLaws
 pub mod ComparisonLaws
 pub mod CausesLaws
 pub mod PracticeLaws
+pub mod HallsLaws

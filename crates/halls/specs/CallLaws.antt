@@ -25,7 +25,7 @@ use Rattle.planning.specs.declared.PlannedDay.{PlannedDay}
 use Rattle.planning.specs.Contracts.{ReadUnder, UnderAt}
 use Rattle.halls.specs.declared.HallPlanned.{HallPlanned}
 use Rattle.halls.specs.declared.HallsPlanned.{HallsPlanned}
-use Rattle.halls.specs.Halls.{Hall, Outcome, lent, four, maxLimit, maxHalls, hallHigh, hallProblem, shortHall, hallRefusal, usedBy, usedAfter, hallOutcome, noneUsed, inOrder, hallsFaults, hallsRefusal, nothing, notPlanned, outcomes, outcomeOf, hallsAnswer}
+use Rattle.halls.specs.Halls.{Hall, lent, noHall, four, maxLimit, maxHalls, hallHigh, hallProblem, shortHall, hallRefusal, usedBy, usedAfter, hallOutcome, noneUsed, inOrder, hallsFaults, hallsRefusal, nothing, notPlanned, outcomes, outcomeOf, hallsAnswer}
 use Rattle.halls.specs.Contracts.{Used, left, HallDone, outcomeIf, usedIf, HallDoneIf}
 use Rattle.halls.specs.HallLaws.{length-hallHigh, hallHigh-below, used-next}
 
@@ -145,9 +145,9 @@ module _ (limit halls : ℕ) (n : hallsRefusal limit halls .number ≡ 0 → ⊥
   unfolding outcomes
   refused-outcomes = rw (ne-eqb (hallsRefusal limit halls .number) 0 n)
 
-  pub refused-outcome : (i : ℕ) → outcomeOf limit halls (four a b c d) i ≡ getD (map notPlanned (four a b c d)) i (notPlanned (lent [] [] []))
+  pub refused-outcome : (i : ℕ) → outcomeOf limit halls (four a b c d) i ≡ getD (map notPlanned (four a b c d)) i (notPlanned noHall)
   unfolding outcomeOf
-  refused-outcome i = ap (λ os. getD os i (notPlanned (lent [] [] []))) refused-outcomes
+  refused-outcome i = ap (λ os. getD os i (notPlanned noHall)) refused-outcomes
 
   pub refused-answer : record { number = hallsRefusal limit halls .number; line = hallsRefusal limit halls .line; first = nothing; second = nothing; third = nothing; fourth = nothing }
       ≡ hallsAnswer limit halls (four a b c d)
@@ -216,10 +216,10 @@ module _ (limit halls : ℕ) (z : hallsRefusal limit halls .number ≡ 0) {a b c
       ∷ sym (done₃ .outcome ∙ ap (λ u. outcomeIf (leb 3 halls) limit u c) uses₂) i
       ∷ sym (done₄ .outcome ∙ ap (λ u. outcomeIf (leb 4 halls) limit u d) uses₃) i ∷ [])
 
-  outcome-is : (i : ℕ) → getD (left hall₁ listing₁ placing₁ ∷ left hall₂ listing₂ placing₂ ∷ left hall₃ listing₃ placing₃ ∷ left hall₄ listing₄ placing₄ ∷ []) i (notPlanned (lent [] [] []))
+  outcome-is : (i : ℕ) → getD (left hall₁ listing₁ placing₁ ∷ left hall₂ listing₂ placing₂ ∷ left hall₃ listing₃ placing₃ ∷ left hall₄ listing₄ placing₄ ∷ []) i (notPlanned noHall)
       ≡ outcomeOf limit halls (four a b c d) i
   unfolding outcomeOf
-  outcome-is i = ap (λ os. getD os i (notPlanned (lent [] [] []))) (sym done)
+  outcome-is i = ap (λ os. getD os i (notPlanned noHall)) (sym done)
 
   pub buffers₁ : record { listing = listing₁; placing = placing₁ } ≡ outcomeOf limit halls (four a b c d) 0 .buffers
   buffers₁ = ap (λ o. o .buffers) (outcome-is 0)

@@ -6,7 +6,7 @@ use Prim.Native.Nat.{ℕ, _+_, _≤_, _<_}
 use lib.ListN.{length, getD}
 use Rattle.checks.specs.Limits.{maxSlots}
 use Rattle.halls.specs.declared.HallPlanned.{HallPlanned}
-use Rattle.halls.specs.Halls.{Hall, Outcome, maxLimit, usedAfter, hallOutcome, notPlanned}
+use Rattle.halls.specs.Halls.{Hall, HallOutcome, maxLimit, usedAfter, hallOutcome, notPlanned}
 
 -- the sum in each slot is one byte
 pub record CanAdd (used counts : List ℕ) : Type 0 where
@@ -21,7 +21,7 @@ pub record Used (limit : ℕ) (used : List ℕ) : Type 0 where
   pub within : (t : ℕ) → t < maxSlots → getD used t 0 ≤ limit
 
 -- an answer and buffers left
-abbrev pub left : HallPlanned → (listing placing : List ℕ) → Outcome
+abbrev pub left : HallPlanned → (listing placing : List ℕ) → HallOutcome
 left r listing placing = record { answer = r .planned; buffers = record { listing = listing; placing = placing } }
 
 -- `plan_hall`
@@ -30,7 +30,7 @@ pub record HallDone (limit : ℕ) (used : List ℕ) (h : Hall) (r : HallPlanned)
   pub uses : r .used ≡ usedAfter limit used h
 
 -- `plan_hall_if`: a hall that is there or not
-unfoldable pub outcomeIf : Bool → (limit : ℕ) (used : List ℕ) → Hall → Outcome
+unfoldable pub outcomeIf : Bool → (limit : ℕ) (used : List ℕ) → Hall → HallOutcome
 outcomeIf there limit used h = cond there (hallOutcome limit used h) (notPlanned h)
 
 unfoldable pub usedIf : Bool → (limit : ℕ) (used : List ℕ) → Hall → List ℕ

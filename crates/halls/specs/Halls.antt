@@ -38,12 +38,15 @@ pub record Hall : Type 0 where
 abbrev pub lent : (bytes listing placing : List ℕ) → Hall
 lent bytes listing placing = record { bytes = bytes; buffers = record { listing = listing; placing = placing } }
 
+abbrev pub noHall : Hall
+noHall = lent [] [] []
+
 -- the halls that the call is lent, in list order
 abbrev pub four : (a b c d : Hall) → List Hall
 four a b c d = a ∷ b ∷ c ∷ d ∷ []
 
 -- What is answered for a hall, and its buffers afterwards.
-pub record Outcome : Type 0 where
+pub record HallOutcome : Type 0 where
   pub answer : Planned
   pub buffers : Buffers
 
@@ -77,7 +80,7 @@ unfoldable pub usedAfter : (limit : ℕ) (used : List ℕ) → Hall → List ℕ
 usedAfter limit used h = zipWith _+_ used (usedBy limit used h)
 
 -- its number, line and length, and its buffers afterwards
-unfoldable pub hallOutcome : (limit : ℕ) (used : List ℕ) → Hall → Outcome
+unfoldable pub hallOutcome : (limit : ℕ) (used : List ℕ) → Hall → HallOutcome
 hallOutcome limit used h =
     let r : Refusal = hallRefusal limit used h in
     let p : Problem = hallProblem limit used h in
@@ -97,7 +100,7 @@ abbrev pub noneUsed : List ℕ
 noneUsed = replicate maxSlots 0
 
 -- each under what the halls before it use
-unfoldable pub inOrder : (limit : ℕ) (used : List ℕ) → List Hall → List Outcome
+unfoldable pub inOrder : (limit : ℕ) (used : List ℕ) → List Hall → List HallOutcome
 inOrder limit used [] = []
 inOrder limit used (h ∷ hs) = hallOutcome limit used h ∷ inOrder limit (usedAfter limit used h) hs
 
@@ -105,6 +108,10 @@ inOrder limit used (h ∷ hs) = hallOutcome limit used h ∷ inOrder limit (used
 unfoldable pub usedByAll : (limit : ℕ) (used : List ℕ) → List Hall → List ℕ
 usedByAll limit used [] = used
 usedByAll limit used (h ∷ hs) = usedByAll limit (usedAfter limit used h) hs
+
+-- what the halls before hall i use, i from 0
+abbrev pub usedBefore : (limit : ℕ) → List Hall → (i : ℕ) → List ℕ
+usedBefore limit hs i = usedByAll limit noneUsed (take i hs)
 
 -- The call ------------------------------------------------------------------------
 
@@ -119,19 +126,19 @@ abbrev pub nothing : Planned
 nothing = record { number = 0; line = 0; length = 0 }
 
 -- a hall that is not planned: zeros, and its buffers as they were lent
-abbrev pub notPlanned : Hall → Outcome
+abbrev pub notPlanned : Hall → HallOutcome
 notPlanned h = record { answer = nothing; buffers = h .buffers }
 
 -- of the halls lent, so many are there and are planned; with 14 none is
-unfoldable pub outcomes : (limit halls : ℕ) → List Hall → List Outcome
+unfoldable pub outcomes : (limit halls : ℕ) → List Hall → List HallOutcome
 outcomes limit halls hs =
     cond (eqb (hallsRefusal limit halls .number) 0)
     (inOrder limit noneUsed (take halls hs) ++ map notPlanned (drop halls hs))
     (map notPlanned hs)
 
 -- of hall i of those lent, i from 0
-unfoldable pub outcomeOf : (limit halls : ℕ) → List Hall → (i : ℕ) → Outcome
-outcomeOf limit halls hs i = getD (outcomes limit halls hs) i (notPlanned (lent [] [] []))
+unfoldable pub outcomeOf : (limit halls : ℕ) → List Hall → (i : ℕ) → HallOutcome
+outcomeOf limit halls hs i = getD (outcomes limit halls hs) i (notPlanned noHall)
 
 unfoldable pub hallsAnswer : (limit halls : ℕ) → List Hall → HallsPlanned
 hallsAnswer limit halls hs =

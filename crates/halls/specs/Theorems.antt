@@ -16,22 +16,15 @@ use Rattle.checks.specs.Sheet.{sheetOf}
 use Rattle.checks.specs.Checks.{firstRefusal, faults}
 use Rattle.planning.specs.Problem.{Problem, wholeDay, alone, listingOf, wordsFor}
 use Rattle.planning.specs.Planning.{planChecks, planRefusal, shortPlan, shortPlacing, listedAnswer, listingAfter, placingAfter}
-use Rattle.halls.specs.Halls.{Hall, Outcome, lent, maxLimit, hallProblem, shortHall, hallRefusal, usedAfter, hallOutcome, noneUsed, inOrder, usedByAll, hallsRefusal, notPlanned, outcomes, outcomeOf}
+use Rattle.halls.specs.Halls.{Hall, HallOutcome, noHall, maxLimit, hallProblem, shortHall, hallRefusal, usedAfter, hallOutcome, noneUsed, inOrder, usedByAll, usedBefore, hallsRefusal, notPlanned, outcomes, outcomeOf}
 use Rattle.halls.specs.Contracts.{Used}
 use Rattle.halls.specs.HallLaws.{hallHigh-full, length-used, refused-leaves, used-next, length-none, none-used}
 
-abbrev noHall : Hall
-noHall = lent [] [] []
-
 -- of the halls lent, the first n are there
-abbrev firstOf : (limit : ℕ) (used : List ℕ) (n : ℕ) → List Hall → List Outcome
+abbrev firstOf : (limit : ℕ) (used : List ℕ) (n : ℕ) → List Hall → List HallOutcome
 firstOf limit used n hs = inOrder limit used (take n hs) ++ map notPlanned (drop n hs)
 
 -- Each hall -------------------------------------------------------------------------------
-
--- what the halls before hall i use
-abbrev pub usedBefore : (limit : ℕ) → List Hall → (i : ℕ) → List ℕ
-usedBefore limit hs i = usedByAll limit noneUsed (take i hs)
 
 first-there : (limit : ℕ) (used : List ℕ) (n : ℕ) (hs : List Hall) (i : ℕ) → i < n → i < length hs
     → getD (firstOf limit used n hs) i (notPlanned noHall) ≡ hallOutcome limit (usedByAll limit used (take i hs)) (getD hs i noHall)
@@ -50,6 +43,14 @@ first-none limit used zero (h ∷ hs) (suc i) l = first-none limit used zero hs 
 first-none limit used (suc n) [] i l = refl
 first-none limit used (suc n) (h ∷ hs) zero l = absurd (omega arith)
 first-none limit used (suc n) (h ∷ hs) (suc i) l = first-none limit (usedAfter limit used h) n hs i (omega arith)
+
+-- what the halls before the next hall use
+pub used-before-next : (limit : ℕ) (hs : List Hall) (used : List ℕ) (i : ℕ) → i < length hs
+    → usedByAll limit used (take (suc i) hs) ≡ usedAfter limit (usedByAll limit used (take i hs)) (getD hs i noHall)
+unfolding usedByAll
+used-before-next limit [] used i l = absurd (omega arith)
+used-before-next limit (h ∷ hs) used zero l = refl
+used-before-next limit (h ∷ hs) used (suc i) l = used-before-next limit hs (usedAfter limit used h) i (omega arith)
 
 module _ (limit halls : ℕ) where
   -- with number 0 the halls that are there are planned
@@ -80,13 +81,17 @@ unfolding usedByAll
 used-all limit [] used u = u
 used-all limit (h ∷ hs) used u = used-all limit hs (usedAfter limit used h) (used-next limit used h u)
 
+-- what the halls before one use
+pub used-before : (limit : ℕ) → limit ≤ maxLimit → (hs : List Hall) (i : ℕ) → Used limit (usedBefore limit hs i)
+used-before limit l hs i = used-all limit (take i hs) noneUsed (none-used limit l)
+
 -- The sum over halls stays within the limit in every slot.
 pub halls-within-limit : (limit : ℕ) → limit ≤ maxLimit → (hs : List Hall) (t : ℕ) → t < maxSlots → getD (usedByAll limit noneUsed hs) t 0 ≤ limit
 halls-within-limit limit l hs = used-all limit hs noneUsed (none-used limit l) .within
 
 -- Earlier and later halls ----------------------------------------------------------------------
 
-first-earlier : (limit : ℕ) (used : List ℕ) (n : ℕ) (hs ks : List Hall) (i : ℕ) (z : Outcome) → take (suc i) hs ≡ take (suc i) ks
+first-earlier : (limit : ℕ) (used : List ℕ) (n : ℕ) (hs ks : List Hall) (i : ℕ) (z : HallOutcome) → take (suc i) hs ≡ take (suc i) ks
     → getD (firstOf limit used n hs) i z ≡ getD (firstOf limit used n ks) i z
 unfolding inOrder
 first-earlier limit used n [] [] i z e = refl
@@ -113,7 +118,7 @@ earlier-halls limit halls hs ks i e = go (eqb (hallsRefusal limit halls .number)
 -- A refused hall ------------------------------------------------------------------------------
 
 first-without : (limit : ℕ) (used : List ℕ) → length used ≡ maxSlots → (n : ℕ) (xs : List Hall) (h : Hall) (ys : List Hall) → length xs ≤ n
-    → (hallRefusal limit (usedByAll limit used xs) h .number ≡ 0 → ⊥) → (j : ℕ) (z : Outcome) → length xs ≤ j
+    → (hallRefusal limit (usedByAll limit used xs) h .number ≡ 0 → ⊥) → (j : ℕ) (z : HallOutcome) → length xs ≤ j
     → getD (firstOf limit used (suc n) (xs ++ (h ∷ ys))) (suc j) z ≡ getD (firstOf limit used n (xs ++ ys)) j z
 unfolding inOrder usedByAll
 first-without limit used long n [] h ys l refused j z k =
