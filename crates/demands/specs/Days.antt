@@ -1,5 +1,5 @@
 -- The days of 'Days at the edge' as one table: a question about a sheet's text, beside what document 01 says, and
--- requests 101 to 107 where they change that or say more. `answer` gives the answer of the definitions; a plan's
+-- requests 101 to 108 where they change that or say more. `answer` gives the answer of the definitions; a plan's
 -- numbers are read off the program's whole output. Assumes nothing.
 use mathlib.Core.Path.{_≡_, refl}
 use mathlib.Core.Bool.{Bool, false}
@@ -7,16 +7,21 @@ use mathlib.Core.List.{List, [], _∷_, map}
 use Prim.Native.Nat.{ℕ}
 use Prim.Native.String.{String}
 use lib.IntN.{ℤ, pos, negsuc}
-use lib.ListN.{replicate}
+use lib.ListN.{length, replicate}
+use Rattle.common.specs.Lists.{range, flatMap}
 use Rattle.checks.specs.Sheet.{sheetOf}
 use Rattle.lookup.specs.LookUp.{tankLines, lookUp}
 use Rattle.questions.specs.Text.{text}
 use Rattle.questions.specs.Calls.{shortfallOf, boundsOf}
+use Rattle.plan_lines.specs.Sizes.{planBytes, placingWords}
 use Rattle.plan_lines.specs.Lines.{Line, line}
 use Rattle.planning.specs.Problem.{alone, countsOf, wordsFor}
-use Rattle.planning.specs.ReadListing.{linesOf, headLine, stretchPart, feedPart, billOn}
+use Rattle.planning.specs.ReadListing.{written, linesOf, headLine, stretchPart, feedPart, billOn}
 use Rattle.program.specs.Program.{output, explanation, seedOutput}
-use Rattle.demands.specs.Meanings.{listings, placings, causes, practices}
+use Rattle.halls.specs.declared.HallsPlanned.{HallsPlanned}
+use Rattle.halls.specs.Halls.{Hall, lent, outcomeOf, hallsAnswer}
+use Rattle.demands.specs.Halls.{hallIn, answerIn, busyIn}
+use Rattle.demands.specs.Meanings.{listings, placings, causes, practices, halls}
 
 -- Questions and answers -------------------------------------------------------------
 
@@ -47,6 +52,12 @@ pub data Question : Type 0 where
   practiceFor : (input : List String) → Question
   -- all lines of a tank
   linesFor : Sheet → (tank : ℕ) → Question
+  -- number and line of the call for these halls, then of each hall
+  hallsFor : (limit : ℕ) → List Sheet → Question
+  -- the busy blowers that the listing of hall i shows in each of so many slots, i from 0
+  hallCountsFor : (limit : ℕ) → List Sheet → (i slots : ℕ) → Question
+  -- the text in the plan buffer of hall i
+  hallTextFor : (limit : ℕ) → List Sheet → (i : ℕ) → Question
 
 pub data Answer : Type 0 where
   bytes : List ℕ → Answer
@@ -60,6 +71,16 @@ pub data Answer : Type 0 where
 -- the lines of the output
 abbrev outputLines : Sheet → List Line
 outputLines s = linesOf (output (text s))
+
+-- halls with buffers that are long enough, and what is answered for them
+abbrev hallsOf : List Sheet → List Hall
+hallsOf sheets = map (λ s. lent (text s) (replicate planBytes 0) (replicate placingWords 0)) sheets
+
+abbrev hallsAnswered : (limit : ℕ) → List Sheet → HallsPlanned
+hallsAnswered limit sheets = hallsAnswer limit (length sheets) (hallsOf sheets)
+
+abbrev hallListing : (limit : ℕ) → List Sheet → (i : ℕ) → List ℕ
+hallListing limit sheets i = outcomeOf limit (length sheets) (hallsOf sheets) i .buffers .listing
 
 -- what the definitions answer
 abbrev pub answer : Question → Answer
@@ -76,6 +97,12 @@ answer (boundsFor s lows highs) = let r = boundsOf (text s) lows highs in isYes 
 answer (causesFor s) = bytes (explanation (text s))
 answer (practiceFor input) = bytes (seedOutput (text input))
 answer (linesFor s tank) = bytes (lookUp (text s) tank)
+answer (hallsFor limit sheets) =
+    let r = hallsAnswered limit sheets in
+    numbers (r .number ∷ r .line ∷ flatMap (λ i. answerIn r i .number ∷ answerIn r i .line ∷ []) (range 0 (length sheets)))
+answer (hallCountsFor limit sheets i slots) =
+    numbers (map (busyIn (hallIn (hallsOf sheets) i) (answerIn (hallsAnswered limit sheets) i) (hallListing limit sheets i)) (range 0 slots))
+answer (hallTextFor limit sheets i) = bytes (written (answerIn (hallsAnswered limit sheets) i) (hallListing limit sheets i))
 
 -- A row: the question, and the answer that the papers state or that follows from them.
 pub record Day : Type 0 where
@@ -308,3 +335,40 @@ practiceDays =
 pub practice-days-as-stated : AsStated practiceDays
 unfolding practices
 practice-days-as-stated = refl
+
+-- Halls (request 108) ----------------------------------------------------------------------
+
+-- one ration of two feedings in three slots, for two blowers; the day of one slot; a feeding in the second slot alone
+abbrev twoOfThree : Sheet
+twoOfThree = "    3    2    1    1" ∷ "    1    1    3    2" ∷ []
+
+abbrev firstSlot : Sheet
+firstSlot = "    1    1    1    1" ∷ "    1    1    1    1" ∷ []
+
+abbrev secondSlot : Sheet
+secondSlot = "    2    1    1    1" ∷ "    7    2    2    1" ∷ []
+
+-- Blower 2 of the first sheet is idle all day, and blower 1 as long as two slots are left: it is busy in the slots 2
+-- and 3. Under limit 1 the same sheet in a second hall has the room 1, 0, 0: at least one feeding is forced into the
+-- slots 2 and 3, in which it has none. It is held and uses nothing, so that a third hall has slot 1. Under limit 2 it
+-- is planned as the first one is. A refused sheet uses nothing; a hall uses nothing past its only slot; limits and
+-- numbers of halls out of range.
+abbrev pub hallDays : List Day
+hallDays =
+    day (hallsFor 1 (twoOfThree ∷ twoOfThree ∷ firstSlot ∷ [])) (numbers (0 ∷ 0 ∷ 0 ∷ 0 ∷ 12 ∷ 0 ∷ 0 ∷ 0 ∷ []))
+    ∷ day (hallCountsFor 1 (twoOfThree ∷ twoOfThree ∷ firstSlot ∷ []) 0 3) (numbers (0 ∷ 1 ∷ 1 ∷ []))
+    ∷ day (hallTextFor 1 (twoOfThree ∷ twoOfThree ∷ firstSlot ∷ []) 1)
+    (bytes (text ("HELD" ∷ "   12    2    1    0" ∷ "    2    0    0    0" ∷ "    3    0    0    0" ∷ [])))
+    ∷ day (hallCountsFor 1 (twoOfThree ∷ twoOfThree ∷ firstSlot ∷ []) 2 3) (numbers (1 ∷ 0 ∷ 0 ∷ []))
+    ∷ day (hallCountsFor 2 (twoOfThree ∷ twoOfThree ∷ []) 1 3) (numbers (0 ∷ 1 ∷ 1 ∷ []))
+    ∷ day (hallsFor 1 (("   97    1    0    0" ∷ []) ∷ twoOfThree ∷ [])) (numbers (0 ∷ 0 ∷ 3 ∷ 1 ∷ 0 ∷ 0 ∷ []))
+    ∷ day (hallCountsFor 1 (("   97    1    0    0" ∷ []) ∷ twoOfThree ∷ []) 1 3) (numbers (0 ∷ 1 ∷ 1 ∷ []))
+    ∷ day (hallsFor 1 (firstSlot ∷ secondSlot ∷ firstSlot ∷ [])) (numbers (0 ∷ 0 ∷ 0 ∷ 0 ∷ 0 ∷ 0 ∷ 12 ∷ 0 ∷ []))
+    ∷ day (hallsFor 33 (firstSlot ∷ [])) (numbers (14 ∷ 0 ∷ 0 ∷ 0 ∷ []))
+    ∷ day (hallsFor 0 (firstSlot ∷ [])) (numbers (14 ∷ 0 ∷ 0 ∷ 0 ∷ []))
+    ∷ day (hallsFor 32 []) (numbers (14 ∷ 0 ∷ []))
+    ∷ []
+
+pub hall-days-as-stated : AsStated hallDays
+unfolding halls
+hall-days-as-stated = refl

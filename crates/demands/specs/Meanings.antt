@@ -2,7 +2,7 @@
 -- back from a listing to its lines: for tables of days. Assumes nothing.
 use Rattle.line.specs.Field.{leading, columns, writeField}
 use Rattle.line.specs.Line.{writeLine}
-use Rattle.common.specs.Buffers.{padded}
+use Rattle.common.specs.Buffers.{over, padded}
 use Rattle.questions.specs.Meanings.{answers}
 use Rattle.method.specs.Method.{onRun, idleFor, busyFor, longest, idleRun, busyRun, settle, settleAll, loads}
 use Rattle.method.specs.Feedings.{prefer, cells, withCounts, chosen}
@@ -12,10 +12,10 @@ use Rattle.bill.specs.Bill.{rates, hourOf, rateOf, onRate, onCharge, startCharg
 use Rattle.plan_lines.specs.Lines.{stretchLine, blowerLines, stretchLines, partAt, fedIn, feedLine, slotLines, feedLines, billLine, planLines, membersFrom, memberLines, heldLines}
 use Rattle.plan_lines.specs.Text.{writeLines, planText, heldText, refusalText}
 use Rattle.plan_lines.specs.PlacingForms.{binary, wordOf, wordsOf}
-use Rattle.planning.specs.Planning.{planRefusal, writes}
+use Rattle.planning.specs.Planning.{planRefusal, shortPlan, shortPlacing, writes, listedAnswer, listingAfter, busyAfter}
 use Rattle.schedules.specs.Rest.{restDemands, restHigh, together, noFeedings}
 use Rattle.planning.specs.Problem.{left, room, canBePlanned, settledCounts, feedingsOf, countsOf, shownSet, planWith, listingOf, wordsFor}
-use Rattle.planning.specs.ReadListing.{lineIn, linesIn, linesOf, headLine, stretchPart, feedPart, billOn}
+use Rattle.planning.specs.ReadListing.{lineIn, linesIn, linesOf, headLine, slotSet, stretchPart, feedPart, billOn, ofMeal, placingOn}
 use Rattle.schedules.specs.Causes.{excessSet, someAbove, crossed, lowest, obstacle}
 use Rattle.method.specs.Keeping.{stretches}
 use Rattle.method.specs.Endings.{inOrder, endings}
@@ -23,7 +23,9 @@ use Rattle.cause_lines.specs.Entries.{entryLines, entryText, entriesText, fitti
 use Rattle.causes.specs.CauseCalls.{endingsOf}
 use Rattle.checks.specs.Sheet.{writeJob, writeSheet}
 use Rattle.practice.specs.Practice.{nextSeed, seedAfter, draw, drawnJob, practiceJob, practiceSheet, faultySeed, seedIn}
+use Rattle.halls.specs.Halls.{hallHigh, hallProblem, shortHall, hallRefusal, usedBy, usedAfter, hallOutcome, hallsInOrder, usedByAll, hallsFaults, hallsRefusal, outcomes, outcomeOf, hallsAnswer}
 use Rattle.program.specs.Program.{output, explanation, seedOutput}
+use Rattle.demands.specs.Halls.{busyIn}
 
 -- the method, feedings, stretches, energy and the charge
 unfoldable pub plans : Unit {0}
@@ -49,3 +51,8 @@ causes = tt
 unfoldable pub practices : Unit {0}
 unfolding listings nextSeed seedAfter draw drawnJob practiceJob practiceSheet writeJob writeSheet faultySeed seedIn seedOutput
 practices = tt
+
+-- from halls to their answers and plan buffers
+unfoldable pub halls : Unit {0}
+unfolding listings over shortPlan shortPlacing listedAnswer listingAfter busyAfter hallHigh hallProblem shortHall hallRefusal usedBy usedAfter hallOutcome hallsInOrder usedByAll hallsFaults hallsRefusal outcomes outcomeOf hallsAnswer slotSet ofMeal placingOn busyIn
+halls = tt

@@ -25,7 +25,7 @@ use Rattle.planning.specs.declared.PlannedDay.{PlannedDay}
 use Rattle.planning.specs.Contracts.{ReadUnder, UnderAt}
 use Rattle.halls.specs.declared.HallPlanned.{HallPlanned}
 use Rattle.halls.specs.declared.HallsPlanned.{HallsPlanned}
-use Rattle.halls.specs.Halls.{Hall, lent, noHall, four, maxLimit, maxHalls, hallHigh, hallProblem, shortHall, hallRefusal, usedBy, usedAfter, hallOutcome, noneUsed, inOrder, hallsFaults, hallsRefusal, nothing, notPlanned, outcomes, outcomeOf, hallsAnswer}
+use Rattle.halls.specs.Halls.{Hall, lent, noHall, four, maxLimit, maxHalls, hallHigh, hallProblem, shortHall, hallRefusal, usedBy, usedAfter, hallOutcome, noneUsed, hallsInOrder, hallsFaults, hallsRefusal, nothing, notPlanned, outcomes, outcomeOf, hallsAnswer}
 use Rattle.halls.specs.Contracts.{Used, left, HallDone, outcomeIf, usedIf, HallDoneIf}
 use Rattle.halls.specs.HallLaws.{length-hallHigh, hallHigh-below, used-next}
 
@@ -176,12 +176,12 @@ module _ (limit : ℕ) (used : List ℕ) (a b c d : Hall) where
 
   -- the chain of the call is the list in order, where at least one hall is there
   chain : (halls : ℕ) → 1 ≤ halls → halls ≤ maxHalls
-      → inOrder limit used (take halls (four a b c d)) ++ map notPlanned (drop halls (four a b c d))
+      → hallsInOrder limit used (take halls (four a b c d)) ++ map notPlanned (drop halls (four a b c d))
       ≡ hallOutcome limit used a
       ∷ outcomeIf (leb 2 halls) limit used₁ b
       ∷ outcomeIf (leb 3 halls) limit (used₂ halls) c
       ∷ outcomeIf (leb 4 halls) limit (used₃ halls) d ∷ []
-  unfolding inOrder outcomeIf usedIf
+  unfolding hallsInOrder outcomeIf usedIf
   chain zero l m = absurd (omega arith)
   chain (suc zero) l m = refl
   chain (suc (suc zero)) l m = refl
@@ -208,7 +208,7 @@ module _ (limit halls : ℕ) (z : hallsRefusal limit halls .number ≡ 0) {a b c
       ≡ left hall₁ listing₁ placing₁ ∷ left hall₂ listing₂ placing₂ ∷ left hall₃ listing₃ placing₃ ∷ left hall₄ listing₄ placing₄ ∷ []
   unfolding outcomes
   done =
-      ap (λ t. cond t (inOrder limit noneUsed (take halls (four a b c d)) ++ map notPlanned (drop halls (four a b c d))) (map notPlanned (four a b c d))) (eq-eqb (hallsRefusal limit halls .number) 0 z)
+      ap (λ t. cond t (hallsInOrder limit noneUsed (take halls (four a b c d)) ++ map notPlanned (drop halls (four a b c d))) (map notPlanned (four a b c d))) (eq-eqb (hallsRefusal limit halls .number) 0 z)
       ∙ chain limit noneUsed a b c d halls (halls-in-range limit halls z .2) (halls-in-range limit halls z .3)
       ∙ (λ i.
       sym (done₁ .outcome) i

@@ -100,9 +100,9 @@ abbrev pub noneUsed : List ℕ
 noneUsed = replicate maxSlots 0
 
 -- each under what the halls before it use
-unfoldable pub inOrder : (limit : ℕ) (used : List ℕ) → List Hall → List HallOutcome
-inOrder limit used [] = []
-inOrder limit used (h ∷ hs) = hallOutcome limit used h ∷ inOrder limit (usedAfter limit used h) hs
+unfoldable pub hallsInOrder : (limit : ℕ) (used : List ℕ) → List Hall → List HallOutcome
+hallsInOrder limit used [] = []
+hallsInOrder limit used (h ∷ hs) = hallOutcome limit used h ∷ hallsInOrder limit (usedAfter limit used h) hs
 
 -- what all of them use
 unfoldable pub usedByAll : (limit : ℕ) (used : List ℕ) → List Hall → List ℕ
@@ -133,7 +133,7 @@ notPlanned h = record { answer = nothing; buffers = h .buffers }
 unfoldable pub outcomes : (limit halls : ℕ) → List Hall → List HallOutcome
 outcomes limit halls hs =
     cond (eqb (hallsRefusal limit halls .number) 0)
-    (inOrder limit noneUsed (take halls hs) ++ map notPlanned (drop halls hs))
+    (hallsInOrder limit noneUsed (take halls hs) ++ map notPlanned (drop halls hs))
     (map notPlanned hs)
 
 -- of hall i of those lent, i from 0

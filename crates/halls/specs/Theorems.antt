@@ -16,19 +16,19 @@ use Rattle.checks.specs.Sheet.{sheetOf}
 use Rattle.checks.specs.Checks.{firstRefusal, faults}
 use Rattle.planning.specs.Problem.{Problem, wholeDay, alone, listingOf, wordsFor}
 use Rattle.planning.specs.Planning.{planChecks, planRefusal, shortPlan, shortPlacing, listedAnswer, listingAfter, placingAfter}
-use Rattle.halls.specs.Halls.{Hall, HallOutcome, noHall, maxLimit, hallProblem, shortHall, hallRefusal, usedAfter, hallOutcome, noneUsed, inOrder, usedByAll, usedBefore, hallsRefusal, notPlanned, outcomes, outcomeOf}
+use Rattle.halls.specs.Halls.{Hall, HallOutcome, noHall, maxLimit, hallProblem, shortHall, hallRefusal, usedAfter, hallOutcome, noneUsed, hallsInOrder, usedByAll, usedBefore, hallsRefusal, notPlanned, outcomes, outcomeOf}
 use Rattle.halls.specs.Contracts.{Used}
 use Rattle.halls.specs.HallLaws.{hallHigh-full, length-used, refused-leaves, used-next, length-none, none-used}
 
 -- of the halls lent, the first n are there
 abbrev firstOf : (limit : ℕ) (used : List ℕ) (n : ℕ) → List Hall → List HallOutcome
-firstOf limit used n hs = inOrder limit used (take n hs) ++ map notPlanned (drop n hs)
+firstOf limit used n hs = hallsInOrder limit used (take n hs) ++ map notPlanned (drop n hs)
 
 -- Each hall -------------------------------------------------------------------------------
 
 first-there : (limit : ℕ) (used : List ℕ) (n : ℕ) (hs : List Hall) (i : ℕ) → i < n → i < length hs
     → getD (firstOf limit used n hs) i (notPlanned noHall) ≡ hallOutcome limit (usedByAll limit used (take i hs)) (getD hs i noHall)
-unfolding inOrder usedByAll
+unfolding hallsInOrder usedByAll
 first-there limit used zero hs i l k = absurd (omega arith)
 first-there limit used (suc n) [] i l k = absurd (omega arith)
 first-there limit used (suc n) (h ∷ hs) zero l k = refl
@@ -36,7 +36,7 @@ first-there limit used (suc n) (h ∷ hs) (suc i) l k = first-there limit (usedA
 
 first-none : (limit : ℕ) (used : List ℕ) (n : ℕ) (hs : List Hall) (i : ℕ) → n ≤ i
     → getD (firstOf limit used n hs) i (notPlanned noHall) ≡ notPlanned (getD hs i noHall)
-unfolding inOrder
+unfolding hallsInOrder
 first-none limit used zero [] i l = refl
 first-none limit used zero (h ∷ hs) zero l = refl
 first-none limit used zero (h ∷ hs) (suc i) l = first-none limit used zero hs i (omega arith)
@@ -71,7 +71,7 @@ module _ (limit halls : ℕ) where
 
   -- with 14 every hall is
   pub hall-refused : (hallsRefusal limit halls .number ≡ 0 → ⊥) → (hs : List Hall) (i : ℕ) → outcomeOf limit halls hs i ≡ notPlanned (getD hs i noHall)
-  unfolding outcomeOf outcomes inOrder
+  unfolding outcomeOf outcomes hallsInOrder
   hall-refused n hs i = rw (ne-eqb (hallsRefusal limit halls .number) 0 n) (first-none limit noneUsed 0 hs i (omega arith))
 
 -- The limit ----------------------------------------------------------------------------------
@@ -93,7 +93,7 @@ halls-within-limit limit l hs = used-all limit hs noneUsed (none-used limit l) .
 
 first-earlier : (limit : ℕ) (used : List ℕ) (n : ℕ) (hs ks : List Hall) (i : ℕ) (z : HallOutcome) → take (suc i) hs ≡ take (suc i) ks
     → getD (firstOf limit used n hs) i z ≡ getD (firstOf limit used n ks) i z
-unfolding inOrder
+unfolding hallsInOrder
 first-earlier limit used n [] [] i z e = refl
 first-earlier limit used n [] (k ∷ ks) i z e = absurd (cons≢nil (sym e))
 first-earlier limit used n (h ∷ hs) [] i z e = absurd (cons≢nil e)
@@ -107,7 +107,7 @@ first-earlier limit used (suc n) (h ∷ hs) (k ∷ ks) (suc i) z e =
 -- What is answered for a hall, and left in its buffers, depends on it and the halls before it alone: a later hall,
 -- changed in any way, leaves earlier ones as they were.
 pub earlier-halls : (limit halls : ℕ) (hs ks : List Hall) (i : ℕ) → take (suc i) hs ≡ take (suc i) ks → outcomeOf limit halls hs i ≡ outcomeOf limit halls ks i
-unfolding outcomeOf outcomes inOrder
+unfolding outcomeOf outcomes hallsInOrder
 earlier-halls limit halls hs ks i e = go (eqb (hallsRefusal limit halls .number) 0)
   where
     go : (t : Bool) → getD (cond t (firstOf limit noneUsed halls hs) (map notPlanned hs)) i (notPlanned noHall)
@@ -120,7 +120,7 @@ earlier-halls limit halls hs ks i e = go (eqb (hallsRefusal limit halls .number)
 first-without : (limit : ℕ) (used : List ℕ) → length used ≡ maxSlots → (n : ℕ) (xs : List Hall) (h : Hall) (ys : List Hall) → length xs ≤ n
     → (hallRefusal limit (usedByAll limit used xs) h .number ≡ 0 → ⊥) → (j : ℕ) (z : HallOutcome) → length xs ≤ j
     → getD (firstOf limit used (suc n) (xs ++ (h ∷ ys))) (suc j) z ≡ getD (firstOf limit used n (xs ++ ys)) j z
-unfolding inOrder usedByAll
+unfolding hallsInOrder usedByAll
 first-without limit used long n [] h ys l refused j z k =
     ap (λ u. getD (firstOf limit u n ys) j z) (refused-leaves limit used h long refused)
 first-without limit used long zero (x ∷ xs) h ys l refused j z k = absurd (omega arith)
