@@ -8,6 +8,8 @@ pub mod damage;
 pub mod draws;
 pub mod flow;
 pub mod generate;
+pub mod groups;
+pub mod halls;
 pub mod listing;
 pub mod method;
 pub mod placing;

@@ -3,7 +3,7 @@
 
 use crate::bill;
 use crate::method::{self, Plan};
-use crate::placing::{Question, SlotSet};
+use crate::placing::{full_highs, Question, SlotSet};
 use crate::sheet::{line_text, read, Refusal, Sheet, LINE, MOST_SLOTS};
 
 /// The least plan buffer: `PLAN`, its head line, for each of 8 blowers and 96 slots one
@@ -31,15 +31,37 @@ pub fn plan_text(plan: &Plan) -> Vec<u8> {
     text
 }
 
+/// The words of a plan's placing (request 106): slot t is in word t − 1, ration i in bit
+/// i − 1, and every other bit is 0.
+pub fn placing_words(plan: &Plan) -> [u64; PLACING_WORDS] {
+    let mut words = [0; PLACING_WORDS];
+    for (i, row) in plan.placing.iter().enumerate() {
+        for (word, &fed) in words.iter_mut().zip(row) {
+            *word |= u64::from(fed) << i;
+        }
+    }
+    words
+}
+
 /// The listing of a sheet that is held for want of blowers, with the slots shown.
 pub fn held_text(sheet: &Sheet, shown: &SlotSet) -> Vec<u8> {
+    held_text_under(sheet, &full_highs(sheet), shown)
+}
+
+/// The same under these highs, whose sum over the slots shown is the capacity.
+pub fn held_text_under(sheet: &Sheet, highs: &[u32], shown: &SlotSet) -> Vec<u8> {
     let slots: Vec<u32> = (1..=sheet.slots)
         .filter(|&t| shown[t as usize - 1])
         .collect();
     let size = slots.len() as u32;
-    let forced = Question::of_day(sheet).forced(shown);
+    let day = Question::below(sheet, highs);
     let mut text = b"HELD\n".to_vec();
-    text.extend(line_text([12, size, forced, size * sheet.blowers]));
+    text.extend(line_text([
+        12,
+        size,
+        day.forced(shown),
+        day.capacity(shown),
+    ]));
     for slot in slots {
         text.extend(line_text([slot, 0, 0, 0]));
     }
@@ -66,9 +88,8 @@ pub fn program(bytes: &[u8]) -> Vec<u8> {
 
 /// The planning call: number, line and length. Checks 1 to 9 and 13, 10 for each buffer
 /// that is lent, then 12. Without a plan buffer the length is 0. Numbers 0 and 12
-/// settle the first 96 words of a lent placing buffer (request 106): slot t is in word
-/// t − 1, ration i in bit i − 1, and every other bit is 0. Bytes and words after what is
-/// written keep their values.
+/// settle the first 96 words of a lent placing buffer, for 12 all to 0. Bytes and words
+/// after what is written keep their values.
 pub fn plan(
     bytes: &[u8],
     plan_buffer: Option<&mut [u8]>,
@@ -87,14 +108,8 @@ pub fn plan(
     }
     let outcome = method::plan(&sheet);
     if let Some(buffer) = placing_buffer {
-        buffer[..PLACING_WORDS].fill(0);
-        if let Ok(plan) = &outcome {
-            for (i, row) in plan.placing.iter().enumerate() {
-                for (t, &fed) in row.iter().enumerate() {
-                    buffer[t] |= u64::from(fed) << i;
-                }
-            }
-        }
+        let words = outcome.as_ref().map_or([0; PLACING_WORDS], placing_words);
+        buffer[..PLACING_WORDS].copy_from_slice(&words);
     }
     let (number, text) = match &outcome {
         Ok(plan) => (0, plan_text(plan)),

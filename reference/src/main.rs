@@ -20,7 +20,7 @@ const USAGE: &str = "usage: reference plan < sheet > listing
 A seed is a number from 0 to 99,999 in a field of five columns, closed by byte 10.
 KIND is random, whole-day, tight, crowded, jagged, held or damaged; SEED is a number of
 32 bits.
-STREAM is sheet, placing, plan, days, causes, practice or seeds.";
+STREAM is sheet, placing, plan, days, causes, practice, seeds or halls.";
 
 fn main() -> ExitCode {
     let arguments: Vec<String> = std::env::args().skip(1).collect();
@@ -96,6 +96,7 @@ fn case_file(file: &str) -> Option<Vec<u8>> {
         "causes" => (cases::causes::cases(), cases::causes::output),
         "practice" => (cases::practice::cases(), cases::practice::output),
         "seeds" => (cases::practice::all_seeds(), cases::practice::output),
+        "halls" => (cases::halls::cases(), cases::halls::output),
         _ => return None,
     };
     match side {

@@ -4,7 +4,7 @@
 //! Slot t of the paper stands at index t − 1 of every list.
 
 use crate::bill;
-use crate::placing::{Placing, Question, SlotSet};
+use crate::placing::{full_highs, shown_set_under, Placing, Question, SlotSet};
 use crate::sheet::Sheet;
 
 /// What a blower does in a stretch, by the number the listing gives it.
@@ -52,10 +52,15 @@ pub struct Plan {
 
 /// The plan of a sheet, or the slots shown if it has no sound placing.
 pub fn plan(sheet: &Sheet) -> Result<Plan, SlotSet> {
-    if let Some(set) = crate::placing::shown_set(sheet) {
+    plan_under(sheet, &full_highs(sheet))
+}
+
+/// The same under these highs, each at most the sheet's blowers.
+pub fn plan_under(sheet: &Sheet, highs: &[u32]) -> Result<Plan, SlotSet> {
+    if let Some(set) = shown_set_under(sheet, highs) {
         return Err(set);
     }
-    let counts = counts(sheet);
+    let counts = counts_under(sheet, highs);
     let placing = choose_feedings(sheet, &counts);
     let stretches = stretches(sheet, &counts);
     let starts = starts(&stretches);
@@ -95,11 +100,17 @@ impl Bounds {
 }
 
 /// The count of each slot, for a sheet with a sound placing.
+pub fn counts(sheet: &Sheet) -> Vec<u32> {
+    counts_under(sheet, &full_highs(sheet))
+}
+
+/// The same under these highs, for a sheet with a sound placing under them.
 ///
 /// The longest run is found one slot after another: a longer run asks for more, so
-/// where a run fails every longer one fails too.
-pub fn counts(sheet: &Sheet) -> Vec<u32> {
-    let question = Question::of_day(sheet);
+/// where a run fails every longer one fails too. A high may be below k − 1 from the
+/// start, and the idle step does not raise it.
+pub fn counts_under(sheet: &Sheet, highs: &[u32]) -> Vec<u32> {
+    let question = Question::below(sheet, highs);
     let placing = question.solve(None).expect("the sheet has a sound placing");
     let mut bounds = Bounds { question, placing };
     let day = sheet.slots as usize;
@@ -109,7 +120,8 @@ pub fn counts(sheet: &Sheet) -> Vec<u32> {
             let begin = slot;
             while slot < day {
                 let low = bounds.question.low[slot];
-                if !bounds.keep_if_sound(slot, low, k - 1) {
+                let high = bounds.question.high[slot].min(k - 1);
+                if !bounds.keep_if_sound(slot, low, high) {
                     break;
                 }
                 slot += 1;

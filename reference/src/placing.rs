@@ -51,10 +51,14 @@ impl Question {
         }
     }
 
+    /// The sheet's rations under highs alone: every low is 0.
+    pub fn below(sheet: &Sheet, high: &[u32]) -> Self {
+        Question::under(sheet, &vec![0; high.len()], high)
+    }
+
     /// The sheet's rations where no further bound is given: low 0 and high m.
     pub fn of_day(sheet: &Sheet) -> Self {
-        let day = sheet.slots as usize;
-        Question::under(sheet, &vec![0; day], &vec![sheet.blowers; day])
+        Question::below(sheet, &full_highs(sheet))
     }
 
     /// forced(Q): what each ration cannot place outside Q.
@@ -75,9 +79,14 @@ impl Question {
         self.open.iter().zip(&self.volume).map(possible).sum()
     }
 
+    /// The sum of high over Q.
+    pub fn capacity(&self, set: &[bool]) -> u32 {
+        sum_over(set, &self.high)
+    }
+
     /// shortfall(Q): forced(Q) less the sum of high over Q.
     pub fn shortfall(&self, set: &[bool]) -> i32 {
-        self.forced(set) as i32 - sum_over(set, &self.high) as i32
+        self.forced(set) as i32 - self.capacity(set) as i32
     }
 
     /// excess(Q): the sum of low over Q less possible(Q).
@@ -204,10 +213,20 @@ fn sum_over(set: &[bool], values: &[u32]) -> u32 {
     chosen.map(|(_, v)| v).sum()
 }
 
+/// The highs of a day without further word: the sheet's blowers in each slot.
+pub fn full_highs(sheet: &Sheet) -> Vec<u32> {
+    vec![sheet.blowers; sheet.slots as usize]
+}
+
 /// The slots shown for a sheet without a sound placing: the set contained in every
 /// set of greatest shortfall. None if there is a sound placing.
 pub fn shown_set(sheet: &Sheet) -> Option<SlotSet> {
-    match Question::of_day(sheet).solve(None) {
+    shown_set_under(sheet, &full_highs(sheet))
+}
+
+/// The slots shown under these highs.
+pub fn shown_set_under(sheet: &Sheet, highs: &[u32]) -> Option<SlotSet> {
+    match Question::below(sheet, highs).solve(None) {
         Ok(_) => None,
         Err(Obstacle::Shortfall(set)) => Some(set),
         Err(other) => unreachable!("{other:?} where every low is 0"),

@@ -3,9 +3,10 @@
 
 use reference::draws::Draws;
 use reference::generate::{any_sheet, random_sheet, Sizes};
-use reference::method::{self, Feeding, State};
+use reference::listing::held_text_under;
+use reference::method::{self, plan_under, Feeding, State};
 use reference::placing::{bounds, shortfall, shown_set, Placing, Question};
-use reference::sheet::{Ration, Sheet};
+use reference::sheet::{line_text, Ration, Sheet, LINE};
 
 const SMALL: Sizes = Sizes {
     slots: 4,
@@ -89,18 +90,21 @@ fn excess_of(sheet: &Sheet, set: &[bool], low: &[u32]) -> i64 {
     required - possible
 }
 
-/// The counts, each run found as the greatest length for which a placing exists.
-fn counts_by_definition(sheet: &Sheet, placings: &[Placing]) -> Vec<u32> {
+/// The counts under these highs, each run found as the greatest length for which a placing
+/// exists.
+fn counts_by_definition(sheet: &Sheet, highs: &[u32], placings: &[Placing]) -> Vec<u32> {
     let day = sheet.slots as usize;
     let mut low = vec![0; day];
-    let mut high = vec![sheet.blowers; day];
+    let mut high = highs.to_vec();
     let exists = |low: &[u32], high: &[u32]| placings.iter().any(|p| within(p, low, high));
     for k in (1..=sheet.blowers).rev() {
         let mut t = 0;
         while t < day {
             let narrowed = |length: usize| {
                 let mut narrowed = high.clone();
-                narrowed[t..t + length].fill(k - 1);
+                for bound in &mut narrowed[t..t + length] {
+                    *bound = (*bound).min(k - 1);
+                }
                 narrowed
             };
             let idle = (0..=day - t)
@@ -145,15 +149,14 @@ fn feedings_by_definition(sheet: &Sheet, counts: &[u32], placings: &[Placing]) -
 }
 
 /// The slots shown: the set of greatest shortfall that lies in every other such set.
-fn shown_by_definition(sheet: &Sheet) -> Vec<bool> {
-    let high = vec![sheet.blowers; sheet.slots as usize];
+fn shown_by_definition(sheet: &Sheet, high: &[u32]) -> Vec<bool> {
     let sets = all_sets(sheet.slots);
-    let shortfalls = sets.iter().map(|set| shortfall_of(sheet, set, &high));
+    let shortfalls = sets.iter().map(|set| shortfall_of(sheet, set, high));
     let greatest = shortfalls.max().expect("the empty set is one");
     assert!(greatest > 0);
     let best: Vec<&Vec<bool>> = sets
         .iter()
-        .filter(|set| shortfall_of(sheet, set, &high) == greatest)
+        .filter(|set| shortfall_of(sheet, set, high) == greatest)
         .collect();
     let lies_in = |a: &[bool], b: &[bool]| a.iter().zip(b).all(|(&x, &y)| y || !x);
     let least: Vec<&&Vec<bool>> = best
@@ -188,8 +191,11 @@ impl Settled {
 
 /// Demand 3: the plan keeps all its stretches, and no sound placing that keeps the
 /// stretches settled before one carries that one a slot further.
-fn check_that_stretches_stop_where_they_must(sheet: &Sheet, sound: &[&Placing]) {
-    let plan = method::plan(sheet).expect("planned");
+fn check_that_stretches_stop_where_they_must(
+    sheet: &Sheet,
+    plan: &method::Plan,
+    sound: &[&Placing],
+) {
     let mut settled = Vec::new();
     for blower in (1..=sheet.blowers).rev() {
         let own = plan.stretches.iter().filter(|s| s.blower == blower);
@@ -223,30 +229,57 @@ fn check_that_stretches_stop_where_they_must(sheet: &Sheet, sound: &[&Placing]) 
     }
 }
 
+/// The plan of a day alone, whose highs are its blowers. Says whether it is planned.
 fn check_plan(sheet: &Sheet) -> bool {
-    let day = sheet.slots as usize;
-    let placings = all_placings(sheet);
-    let (low, high) = (vec![0; day], vec![sheet.blowers; day]);
-    let sound: Vec<&Placing> = placings.iter().filter(|p| within(p, &low, &high)).collect();
-    match method::plan(sheet) {
+    let high = vec![sheet.blowers; sheet.slots as usize];
+    assert_eq!(method::plan(sheet), plan_under(sheet, &high));
+    let is_planned = check_plan_under(sheet, &high, &all_placings(sheet));
+    assert_eq!(shown_set(sheet).is_none(), is_planned);
+    is_planned
+}
+
+/// The plan under these highs. Says whether there is one.
+fn check_plan_under(sheet: &Sheet, high: &[u32], placings: &[Placing]) -> bool {
+    let low = vec![0; high.len()];
+    let sound: Vec<&Placing> = placings.iter().filter(|p| within(p, &low, high)).collect();
+    match plan_under(sheet, high) {
         Ok(plan) => {
-            assert!(!sound.is_empty(), "{sheet:?}");
-            assert_eq!(shown_set(sheet), None);
-            let counts = counts_by_definition(sheet, &placings);
-            assert_eq!(plan.counts, counts, "{sheet:?}");
-            let placing = feedings_by_definition(sheet, &counts, &placings);
-            assert_eq!(plan.placing, placing, "{sheet:?}");
+            assert!(!sound.is_empty(), "{sheet:?} {high:?}");
+            let counts = counts_by_definition(sheet, high, placings);
+            assert_eq!(plan.counts, counts, "{sheet:?} {high:?}");
+            let placing = feedings_by_definition(sheet, &counts, placings);
+            assert_eq!(plan.placing, placing, "{sheet:?} {high:?}");
             check_feed_lines(sheet, &plan);
             check_energy(sheet, &plan);
-            check_that_stretches_stop_where_they_must(sheet, &sound);
+            check_that_stretches_stop_where_they_must(sheet, &plan, &sound);
             true
         }
         Err(shown) => {
-            assert!(sound.is_empty(), "{sheet:?}");
-            assert_eq!(shown, shown_by_definition(sheet), "{sheet:?}");
+            assert!(sound.is_empty(), "{sheet:?} {high:?}");
+            assert_eq!(
+                shown,
+                shown_by_definition(sheet, high),
+                "{sheet:?} {high:?}"
+            );
+            check_counts_shown(sheet, high, &shown);
             false
         }
     }
+}
+
+/// The line of counts in a held listing: the number of slots shown, what is forced into them,
+/// and the sum of their highs.
+fn check_counts_shown(sheet: &Sheet, high: &[u32], shown: &Vec<bool>) {
+    let slots = || (0..shown.len()).filter(|&t| shown[t]);
+    let capacity: u32 = slots().map(|t| high[t]).sum();
+    let forced = shortfall_of(sheet, shown, high) + i64::from(capacity);
+    let counts = line_text([12, slots().count() as u32, forced as u32, capacity]);
+    let listing = held_text_under(sheet, high, shown);
+    assert_eq!(
+        listing[b"HELD\n".len()..][..LINE],
+        counts,
+        "{sheet:?} {high:?}"
+    );
 }
 
 /// Feed lines: in each slot the fed rations in sheet order on blowers 1, 2, .., each with
@@ -309,6 +342,42 @@ fn plans_of_small_days() {
     assert!(meals > 100, "{meals} planned with several meals");
 }
 
+/// Highs at random from 0 to the blowers, as earlier halls leave them (request 108).
+#[test]
+fn plans_of_small_days_under_highs() {
+    let mut draws = Draws::new(14);
+    let (mut planned, mut elsewhere) = (0, 0);
+    for _ in 0..6_000 {
+        let mut sheet = random_sheet(&mut draws, SMALL);
+        // With less to feed, more of them have a plan.
+        for ration in &mut sheet.rations {
+            ration.volume = ration.volume.div_ceil(2);
+        }
+        let most = sheet.blowers;
+        let high: Vec<u32> = (0..sheet.slots)
+            .map(|_| draws.between(0, most + 1).min(most))
+            .collect();
+        let is_planned = check_plan_under(&sheet, &high, &all_placings(&sheet));
+        planned += u32::from(is_planned);
+        elsewhere += u32::from(is_planned && plan_under(&sheet, &high) != method::plan(&sheet));
+    }
+    assert!((1_000..5_000).contains(&planned), "{planned} planned");
+    assert!(elsewhere > 300, "{elsewhere} planned otherwise than alone");
+}
+
+/// Every list of highs up to the blowers.
+fn all_highs(slots: u32, blowers: u32) -> Vec<Vec<u32>> {
+    let mut lists = vec![vec![]];
+    for _ in 0..slots {
+        let longer = |list: &Vec<u32>| {
+            let list = list.clone();
+            (0..=blowers).map(move |high| [&list[..], &[high]].concat())
+        };
+        lists = lists.iter().flat_map(longer).collect();
+    }
+    lists
+}
+
 /// Tanks for a list of windows: one each, and as few as check 13 allows.
 fn tank_choices(list: &[(u32, u32, u32)]) -> [Vec<u32>; 2] {
     let mut few: Vec<u32> = Vec::new();
@@ -322,7 +391,7 @@ fn tank_choices(list: &[(u32, u32, u32)]) -> [Vec<u32>; 2] {
     [(1..=list.len() as u32).collect(), few]
 }
 
-/// Every day of up to three slots, two blowers and three rations.
+/// Every day of up to three slots, two blowers and three rations, alone and under all highs.
 #[test]
 fn plans_of_all_tiny_days() {
     for slots in 1..=3 {
@@ -346,12 +415,17 @@ fn plans_of_all_tiny_days() {
                 for tanks in tank_choices(list) {
                     let rations: Vec<Ration> = list.iter().zip(tanks).map(ration).collect();
                     for blowers in 1..=2 {
-                        check_plan(&Sheet {
+                        let sheet = Sheet {
                             slots,
                             blowers,
                             wake: length,
                             rations: rations.clone(),
-                        });
+                        };
+                        check_plan(&sheet);
+                        let placings = all_placings(&sheet);
+                        for high in all_highs(slots, blowers) {
+                            check_plan_under(&sheet, &high, &placings);
+                        }
                     }
                 }
             }

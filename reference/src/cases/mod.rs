@@ -4,6 +4,7 @@
 mod bill;
 pub mod causes;
 pub mod days;
+pub mod halls;
 mod meals;
 pub mod placing;
 pub mod plan;
