@@ -1,7 +1,8 @@
 //! The sheets that times are measured on: every one of the stated sizes, and of a
 //! kind that says whether it is planned or held. Those that answers are compared on
-//! are in `mixture`.
+//! are in `mixture`, and in `groups` where several halls are planned together.
 
+pub mod groups;
 pub mod mixture;
 pub mod pack;
 
