@@ -1,6 +1,6 @@
 -- Why the call that plans halls gives what the demands ask, from the theorems of `halls` and the laws of one problem.
 -- Assumes nothing.
-use mathlib.Core.Path.{_≡_, refl, sym, ap, _∙_, subst, subst₂}
+use mathlib.Core.Path.{_≡_, refl, sym, ap, _∙_, subst}
 use mathlib.Core.Logic.{_⊎_, inl, inr}
 use mathlib.Core.Bool.{Bool, true, false, _||_, cond}
 use mathlib.Core.List.{List, [], _∷_, _++_}
@@ -14,24 +14,22 @@ use borrow.Author.Tests.{eqb-true}
 use Rattle.common.specs.Buffers.{padded}
 use Rattle.common.specs.FillLaws.{getD-zeros, getD-padded, padded-past}
 use Rattle.checks.specs.Limits.{maxSlots}
-use Rattle.checks.specs.Refusals.{badHalls}
 use Rattle.checks.specs.Sheet.{Sheet, sheetOf}
-use Rattle.checks.specs.Checks.{fault, firstRefusal, outside, faults}
-use Rattle.checks.specs.FaultLaws.{Numbered, numbered-append, numbered-fault}
+use Rattle.checks.specs.Checks.{faults}
 use Rattle.sheet.specs.OwnCheckLaws.{bytes-checked}
 use Rattle.theory.specs.Sums.{sum}
 use Rattle.schedules.specs.Schedules.{load}
 use Rattle.plan_lines.specs.Sizes.{planBytes, placingWords}
 use Rattle.planning.specs.declared.Planned.{Planned}
-use Rattle.planning.specs.Problem.{Problem, alone, ProblemInRange, canBePlanned, feedingsOf, countsOf, listingOf, wordsFor}
+use Rattle.planning.specs.Problem.{Problem, alone, ProblemInRange, canBePlanned, countsOf, listingOf, wordsFor}
 use Rattle.planning.specs.Planning.{planRefusal, shortPlan, shortPlacing, listedAnswer, listingAfter, placingAfter, busyAfter}
 use Rattle.planning.specs.ReadListing.{written, linesOf, feedPart, placingOn}
 use Rattle.planning.specs.AloneLaws.{left-whole, room-whole, may-whole}
 use Rattle.planning.specs.CallAnswers.{passed-planned, room-plan, room-placing, neither}
-use Rattle.halls.specs.Halls.{Hall, Buffers, HallOutcome, noHall, four, maxLimit, maxHalls, hallHigh, hallProblem, shortHall, hallRefusal, usedBy, hallOutcome, noneUsed, usedByAll, usedBefore, hallsFaults, hallsRefusal, nothing, notPlanned, outcomeOf, hallsAnswer}
+use Rattle.halls.specs.Halls.{Hall, Buffers, HallOutcome, noHall, four, maxHalls, hallHigh, hallProblem, shortHall, hallRefusal, usedBy, hallOutcome, noneUsed, usedByAll, usedBefore, hallsFaults, hallsRefusal, nothing, notPlanned, outcomeOf, hallsAnswer}
 use Rattle.halls.specs.HallLaws.{length-hallHigh, hallHigh-at, hall-in-range, used-at}
-use Rattle.halls.specs.CallLaws.{halls-in-range}
-use Rattle.halls.specs.Theorems.{hall-there, hall-none, hall-refused, used-before-next, used-before, halls-within-limit, earlier-halls, without-refused, one-hall}
+use Rattle.halls.specs.CallLaws.{numbered-halls, halls-in-range}
+use Rattle.halls.specs.Theorems.{hall-there, hall-none, hall-refused, used-before-next, used-before, earlier-halls, without-refused, one-hall}
 use Rattle.demands.specs.Answers.{FirstOf, NotZero}
 use Rattle.demands.specs.Outcome.{Outcome, loadOf, placingIn, SamePlacing}
 use Rattle.demands.specs.ByMethod.{HasPlacing, ChosenByMethod, ByMethod}
@@ -41,11 +39,6 @@ use Rattle.demands.specs.OutcomeLaws.{written-listing, outcome-of, marks
 use Rattle.demands.specs.ByMethodLaws.{number-is, listed-by-method, marked-by-method}
 
 -- 14 ------------------------------------------------------------------------------------------
-
-numbered-halls : (limit halls : ℕ) → Numbered (hallsFaults limit halls)
-unfolding hallsFaults
-numbered-halls limit halls =
-    numbered-append _ _ (numbered-fault badHalls 0 (outside 1 maxLimit limit) (omega arith)) (numbered-fault badHalls 0 (outside 1 maxHalls halls) (omega arith))
 
 pub first-halls : (limit halls : ℕ) → FirstOf (hallsFaults limit halls) (hallsRefusal limit halls .number) (hallsRefusal limit halls .line)
 unfolding hallsRefusal

@@ -1,19 +1,19 @@
 -- How the answer of the call and its lent buffers follow from what was planned hall by hall. Assumes nothing.
 use mathlib.Core.Path.{_≡_, refl, sym, ap, _∙_, subst}
-use mathlib.Core.Bool.{Bool, true, false, _||_, cond}
+use mathlib.Core.Bool.{Bool, true, false, cond}
 use mathlib.Core.List.{List, [], _∷_, _++_, map}
-use Prim.Native.Nat.{ℕ, zero, suc, _+_, _-_, _≤_, _<_, min}
+use Prim.Native.Nat.{ℕ, zero, suc, _+_, _-_, _≤_, min}
 use native.Mathlib.Omega.{arith}
-use lib.Dec.{leb, ltb, eqb}
-use lib.ListN.{length, getD, take, drop, replicate}
-use borrow.Author.Tests.{eq-eqb, ne-eqb, lt-ltb}
-use Rattle.common.specs.Tests.{or-right}
+use lib.Dec.{leb}
+use lib.ListN.{getD, take, drop}
+use borrow.Author.Tests.{eq-eqb, ne-eqb}
 use Rattle.common.specs.Lists.{zipWith}
 use Rattle.common.specs.Buffers.{padded}
 use Rattle.checks.specs.Limits.{maxSlots}
 use Rattle.checks.specs.Refusals.{badHalls}
 use Rattle.checks.specs.Sheet.{Sheet, sheetOf}
-use Rattle.checks.specs.Checks.{fault, firstRefusal, outside, faults}
+use Rattle.checks.specs.Checks.{fault, outside, faults}
+use Rattle.checks.specs.FaultLaws.{false-fault, append-nil-parts, Numbered, numbered-append, numbered-fault}
 use Rattle.checks.specs.RangeLaws.{inRange-outside}
 use Rattle.sheet.specs.declared.Reading.{Reading}
 use Rattle.sheet.specs.OwnChecks.{ReadFrom}
@@ -24,7 +24,6 @@ use Rattle.planning.specs.declared.Planned.{Planned}
 use Rattle.planning.specs.declared.PlannedDay.{PlannedDay}
 use Rattle.planning.specs.Contracts.{ReadUnder, UnderAt}
 use Rattle.halls.specs.declared.HallPlanned.{HallPlanned}
-use Rattle.halls.specs.declared.HallsPlanned.{HallsPlanned}
 use Rattle.halls.specs.Halls.{Hall, lent, noHall, four, maxLimit, maxHalls, hallHigh, hallProblem, shortHall, hallRefusal, usedBy, usedAfter, hallOutcome, noneUsed, hallsInOrder, hallsFaults, hallsRefusal, nothing, notPlanned, outcomes, outcomeOf, hallsAnswer}
 use Rattle.halls.specs.Contracts.{Used, left, HallDone, outcomeIf, usedIf, HallDoneIf}
 use Rattle.halls.specs.HallLaws.{length-hallHigh, hallHigh-below, used-next}
@@ -98,46 +97,19 @@ after-hall-if there {limit} {used} {h} u d = subst (Used limit) (sym (d .uses)) 
 
 -- 14 ---------------------------------------------------------------------------------------
 
--- a number out of range
-pub below-outside : (a b x : ℕ) → x < a → outside a b x ≡ true
-unfolding outside
-below-outside a b x l = rw (lt-ltb x a l)
+pub numbered-halls : (limit halls : ℕ) → Numbered (hallsFaults limit halls)
+unfolding hallsFaults
+numbered-halls limit halls =
+    numbered-append _ _ (numbered-fault badHalls 0 (outside 1 maxLimit limit) (omega arith)) (numbered-fault badHalls 0 (outside 1 maxHalls halls) (omega arith))
 
-pub above-outside : (a b x : ℕ) → b < x → outside a b x ≡ true
-unfolding outside
-above-outside a b x l = or-right (ltb x a) (lt-ltb b x l)
-
--- the checks by their tests
-refusal-tests : (limit halls : ℕ) {x y : Bool} → outside 1 maxLimit limit ≡ x → outside 1 maxHalls halls ≡ y
-    → hallsRefusal limit halls ≡ firstRefusal (fault badHalls 0 x ++ fault badHalls 0 y)
+-- number 0 says that the limit and the number of halls are in range
+pub halls-in-range : (limit halls : ℕ) → hallsRefusal limit halls .number ≡ 0 → (1 ≤ limit) × (limit ≤ maxLimit) × (1 ≤ halls) × (halls ≤ maxHalls)
 unfolding hallsRefusal hallsFaults
-refusal-tests limit halls e f = λ i. firstRefusal (fault badHalls 0 (e i) ++ fault badHalls 0 (f i))
-
-module _ (limit halls : ℕ) where
-  pub refused-limit : outside 1 maxLimit limit ≡ true → record { number = badHalls; line = 0 } ≡ hallsRefusal limit halls
-  unfolding firstRefusal
-  refused-limit e = sym (refusal-tests limit halls e refl)
-
-  pub refused-halls : outside 1 maxLimit limit ≡ false → outside 1 maxHalls halls ≡ true → record { number = badHalls; line = 0 } ≡ hallsRefusal limit halls
-  unfolding firstRefusal
-  refused-halls e f = sym (refusal-tests limit halls e f)
-
-  pub not-refused : outside 1 maxLimit limit ≡ false → outside 1 maxHalls halls ≡ false → record { number = 0; line = 0 } ≡ hallsRefusal limit halls
-  unfolding firstRefusal
-  not-refused e f = sym (refusal-tests limit halls e f)
-
-  -- number 0 says that both are in range
-  pub halls-in-range : hallsRefusal limit halls .number ≡ 0 → (1 ≤ limit) × (limit ≤ maxLimit) × (1 ≤ halls) × (halls ≤ maxHalls)
-  unfolding firstRefusal
-  halls-in-range z = go (outside 1 maxLimit limit) (outside 1 maxHalls halls) refl refl
-    where
-      go : (x y : Bool) → outside 1 maxLimit limit ≡ x → outside 1 maxHalls halls ≡ y → (1 ≤ limit) × (limit ≤ maxLimit) × (1 ≤ halls) × (halls ≤ maxHalls)
-      go true y e f = absurd (omega (arith, z, ap (λ r. r .number) (refusal-tests limit halls e f)))
-      go false true e f = absurd (omega (arith, z, ap (λ r. r .number) (refusal-tests limit halls e f)))
-      go false false e f =
-          let l = inRange-outside 1 maxLimit limit e in
-          let n = inRange-outside 1 maxHalls halls f in
-          (l .ge, l .le, n .ge, n .le)
+halls-in-range limit halls z =
+    let p = append-nil-parts (fault badHalls 0 (outside 1 maxLimit limit)) (fault badHalls 0 (outside 1 maxHalls halls)) (numbered-halls limit halls z) in
+    let l = inRange-outside 1 maxLimit limit (false-fault badHalls 0 _ (p .0)) in
+    let n = inRange-outside 1 maxHalls halls (false-fault badHalls 0 _ (p .1)) in
+    (l .ge, l .le, n .ge, n .le)
 
 -- where it refuses, no hall is planned
 module _ (limit halls : ℕ) (n : hallsRefusal limit halls .number ≡ 0 → ⊥) (a b c d : Hall) where

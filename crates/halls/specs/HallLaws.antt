@@ -20,7 +20,7 @@ use Rattle.checks.specs.RangeLaws.{ValuesInRange}
 use Rattle.sheet.specs.OwnCheckLaws.{bytes-checked}
 use Rattle.schedules.specs.Demands.{fullHigh}
 use Rattle.schedules.specs.Tabulate.{tab, length-tab, getD-tab, length-zipWith, getD-zipWith}
-use Rattle.planning.specs.Problem.{Problem, alone, wholeDay, ProblemInRange, canBePlanned, countsOf}
+use Rattle.planning.specs.Problem.{Problem, ProblemInRange, canBePlanned, countsOf}
 use Rattle.planning.specs.Planning.{busyAfter}
 use Rattle.planning.specs.ProblemLaws.{feedings-may, length-countsOf}
 use Rattle.planning.specs.AloneLaws.{whole-in-range, length-fullHigh, fullHigh-at}

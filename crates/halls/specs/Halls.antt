@@ -1,6 +1,6 @@
--- Halls behind one mains fuse (request 108): the bounds under which each is planned, what it uses, what the call answers
--- and what it leaves in each lent buffer. Definitions only. Assumes nothing.
-use mathlib.Core.Bool.{Bool, true, false, _||_, cond}
+-- Halls behind one mains fuse (request 108): the bounds under which each is planned, what it uses, what the call
+-- answers and what it leaves in each lent buffer. Definitions only. Assumes nothing.
+use mathlib.Core.Bool.{Bool, _||_, cond}
 use mathlib.Core.List.{List, [], _∷_, _++_, map}
 use Prim.Native.Nat.{ℕ, _+_, _-_, min}
 use lib.Dec.{eqb}

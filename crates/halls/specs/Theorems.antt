@@ -1,7 +1,7 @@
 -- What holds of halls behind one mains fuse (request 108): each is planned under what the earlier ones leave, all
 -- together stay within the limit, a later hall changes nothing for an earlier one, a refused one nothing for a later
 -- one, and one hall that the limit does not bind is planned as it is alone. Assumes nothing.
-use mathlib.Core.Path.{_≡_, refl, sym, ap, _∙_, subst}
+use mathlib.Core.Path.{_≡_, refl, sym, ap, _∙_}
 use mathlib.Core.Bool.{Bool, true, false, _||_, cond}
 use mathlib.Core.List.{List, [], _∷_, _++_, map, cons≢nil}
 use Prim.Native.Nat.{ℕ, zero, suc, _-_, _≤_, _<_}
@@ -14,7 +14,7 @@ use Rattle.common.specs.FillLaws.{getD-zeros}
 use Rattle.checks.specs.Limits.{maxSlots}
 use Rattle.checks.specs.Sheet.{sheetOf}
 use Rattle.checks.specs.Checks.{firstRefusal, faults}
-use Rattle.planning.specs.Problem.{Problem, wholeDay, alone, listingOf, wordsFor}
+use Rattle.planning.specs.Problem.{wholeDay, alone, listingOf, wordsFor}
 use Rattle.planning.specs.Planning.{planChecks, planRefusal, shortPlan, shortPlacing, listedAnswer, listingAfter, placingAfter}
 use Rattle.halls.specs.Halls.{Hall, HallOutcome, noHall, maxLimit, hallProblem, shortHall, hallRefusal, usedAfter, hallOutcome, noneUsed, hallsInOrder, usedByAll, usedBefore, hallsRefusal, notPlanned, outcomes, outcomeOf}
 use Rattle.halls.specs.Contracts.{Used}

@@ -8,8 +8,8 @@ ghost use Rattle.checks.specs.Limits.{maxSlots};
 ghost use Rattle.schedules.specs.Tabulate.{tab};
 ghost use Rattle.halls.specs.Contracts.{CanAdd};
 
-// A hall's high in a slot: the smaller of its own blowers and the limit less what earlier halls use, which is none where
-// they use as many as the limit.
+// A hall's high in a slot: the smaller of its own blowers and the limit less what earlier halls use, which is none
+// where they use as many as the limit.
 fn hall_high(limit: u8, used: u8, blowers: u8) -> u8
     ensures { λ r. ⌜ r ≡ min blowers (limit - used) ⌝ }
 {

@@ -56,8 +56,8 @@ room-placing out l = le-ltb (length out) placingWords l
 pub neither : (x y : Bool) → x ≡ false → y ≡ false → (x || y) ≡ false
 neither x y e f = rw (e, f)
 
--- ---- what number 0, and what number 12, says of a call that plans: its sheet is well-formed, no buffer is too short, and
--- the sheet is planned or held
+-- ---- what number 0, and what number 12, says of a call that plans: its sheet is well-formed, no buffer is too short,
+-- and the sheet is planned or held
 pub passed-planned : (own : List Refusal) → Numbered own → (short c : Bool) → firstRefusal (own ++ (fault shortBuffer 0 short ++ fault noPlacing 0 (not c))) .number ≡ 0
     → (own ≡ []) × (short ≡ false) × (c ≡ true)
 unfolding firstRefusal

@@ -1,4 +1,5 @@
--- The planning calls: what each answers, and what it leaves in the buffers lent to it. Definitions only. Assumes nothing.
+-- The planning calls: what each answers, and what it leaves in the buffers lent to it. Definitions only. Assumes
+-- nothing.
 use mathlib.Core.Bool.{Bool, _&&_, _||_, not, cond}
 use mathlib.Core.List.{List}
 use Prim.Native.Nat.{ℕ}

@@ -4,7 +4,7 @@ use mathlib.Core.Bool.{Bool, true, false, not, true≢false, false≢true}
 use mathlib.Core.List.{List}
 use Prim.Native.Nat.{ℕ, _≤_, _<_}
 use native.Mathlib.Omega.{arith}
-use lib.ListN.{length, getD, take, replicate, length-replicate}
+use lib.ListN.{length, getD, take, replicate}
 use Rattle.checks.specs.Limits.{maxSlots}
 use Rattle.schedules.specs.Schedules.{Demand}
 use Rattle.schedules.specs.Shortfall.{criticalSet}

@@ -1,7 +1,7 @@
 -- `halls::calls::plan_halls` meets its contract. Assumes nothing.
 use mathlib.Core.Path.{_≡_, sym, ap, _∙_}
 use Prim.Native.Nat.{ℕ}
-use Rattle.halls.specs.Halls.{Hall, Buffers, lent, four, nothing, noneUsed, hallsRefusal, outcomeOf}
+use Rattle.halls.specs.Halls.{Hall, Buffers, lent, four, nothing, hallsRefusal, outcomeOf}
 use Rattle.halls.specs.HallLaws.{none-used}
 use Rattle.halls.specs.CallLaws.{halls-in-range, refused-outcome, refused-answer, after-hall, after-hall-if, buffers₁, buffers₂, buffers₃, buffers₄, planned-answer}
 use native.Mathlib.Omega.{arith}
@@ -16,7 +16,7 @@ refuse-halls-requires : tie.Need-refuse-halls-requires
 refuse-halls-requires c κs = search needs
 
 returns : tie.Need-returns
-returns c = 
+returns c =
     let limit = c .before .before .before .before .before .before .before .before .before .before .before .before .before .before .before .before .args .limit in
     let halls = c .before .before .before .before .before .before .before .before .before .before .before .before .before .before .before .before .args .halls in
     let e = c .before .before .before .halls-refusal .ensures in
@@ -70,7 +70,7 @@ same-length-8 : tie.Need-same-length-8
 same-length-8 c = search (needs, c .before .before .before .before .before .before .before .before .before .before .before .before .before .before .before .before .before .before .before .before .before .before .before .before .before .before .before .before .before .before .before .before .before .before .before .plan-hall .kept, c .before .before .before .before .before .before .before .before .before .before .before .before .before .before .before .before .before .before .before .before .before .before .before .before .before .before .plan-hall-if .kept, c .before .before .before .before .before .before .before .before .before .before .before .before .before .before .before .before .before .plan-hall-if2 .kept, c .before .before .before .before .before .before .before .before .plan-hall-if3 .kept)
 
 returns-2 : tie.Need-returns-2
-returns-2 c = 
+returns-2 c =
     let limit = c .before .before .before .before .before .before .before .before .before .before .before .before .before .before .before .before .before .before .before .before .before .before .before .before .before .before .before .before .before .before .before .before .before .before .before .before .before .before .before .before .before .before .before .before .before .before .before .before .before .before .before .before .before .before .args .limit in
     let halls = c .before .before .before .before .before .before .before .before .before .before .before .before .before .before .before .before .before .before .before .before .before .before .before .before .before .before .before .before .before .before .before .before .before .before .before .before .before .before .before .before .before .before .before .before .before .before .before .before .before .before .before .before .before .before .args .halls in
     let e = c .before .before .before .before .before .before .before .before .before .before .before .before .before .before .before .before .before .before .before .before .before .before .before .before .before .before .before .before .before .before .before .before .before .before .before .before .before .before .before .before .before .halls-refusal .ensures in

@@ -1,7 +1,6 @@
 -- `planning::calls::full_highs` meets its contract. Assumes nothing.
 use mathlib.Core.Path.{refl}
 use native.Mathlib.Omega.{arith}
-use borrow.Author.Needs.{needs}
 use Rattle.planning.proofs.calls.full_highs.Statement.{statement}
 use Rattle.planning.proofs.calls.full_highs.Tie as tie
 

@@ -1,5 +1,5 @@
 -- `planning::calls::plan_under` meets its contract. Assumes nothing.
-use mathlib.Core.Path.{_≡_, ap, _∙_}
+use mathlib.Core.Path.{ap, _∙_}
 use mathlib.Core.Bool.{_||_}
 use Rattle.common.specs.Tests.{or-left, or-right}
 use Rattle.planning.specs.Problem.{wholeDay, listingOf, wordsFor}

@@ -3,7 +3,6 @@ use mathlib.Core.Path.{refl}
 use Rattle.placing.specs.RationLaws.{rations-longest}
 use Rattle.placing.specs.WordLaws.{windows-of-day, volumes-of-day}
 use Rattle.stretches.specs.DayLaws.{can-plan-day, day-planned}
-use borrow.Author.Needs.{needs}
 use Rattle.stretches.proofs.planning.plan_day.Statement.{statement}
 use Rattle.stretches.proofs.planning.plan_day.Tie as tie
 
