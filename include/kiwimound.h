@@ -38,6 +38,8 @@ extern "C" {
 #define KIWIMOUND_MAX_WAKE 200u
 #define KIWIMOUND_MAX_RATIONS 64u
 #define KIWIMOUND_MAX_TANK 999u
+#define KIWIMOUND_MAX_HALLS 4u  /* the most halls that are planned behind one limit */
+#define KIWIMOUND_MAX_LIMIT 32u /* the greatest limit on the busy blowers of all halls in a slot */
 
 /* The least length of a buffer that a sheet of n rations is written to. */
 #define KIWIMOUND_SHEET_BYTES(n) (KIWIMOUND_LINE_BYTES * ((size_t)(n) + 1u))
@@ -46,6 +48,7 @@ extern "C" {
 
 enum {
     KIWIMOUND_ACCEPTED = 0,
+    KIWIMOUND_BAD_HALLS = 14,    /* a limit outside 1 to 32 or halls outside 1 to 4; line 0 */
     KIWIMOUND_BAD_LENGTH = 1,    /* the sheet is shorter than 21 bytes, longer than 65,520, or not a multiple of 21 long; line 0 */
     KIWIMOUND_BAD_FIELD = 2,     /* a field is not in the stated form, or a line's closing byte 10 is missing; the first such line */
     KIWIMOUND_BAD_SLOTS = 3,     /* slots outside 1 to 96; line 1 */
@@ -108,6 +111,14 @@ typedef struct kiwimound_planned {
     uint32_t line;
     size_t length;
 } kiwimound_planned;
+
+/* Of planning halls: 0 and 0, or 14 and 0 for the whole call; and what planning hall h came to, in hall[h - 1]. Every
+ * field of `hall` is 0 on 14, and for a hall that is not there. */
+typedef struct kiwimound_halls {
+    uint32_t number;
+    uint32_t line;
+    kiwimound_planned hall[KIWIMOUND_MAX_HALLS];
+} kiwimound_halls;
 
 /* Of a comparison: whether the two days are the same; false on a refusal. */
 typedef struct kiwimound_compared {
@@ -206,6 +217,35 @@ kiwimound_planned kiwimound_plan_placing(const uint8_t *sheet, size_t sheet_leng
  * changed. `length` is the listing's. */
 kiwimound_planned kiwimound_plan_both(const uint8_t *sheet, size_t sheet_length, uint8_t *listing,
                                       size_t listing_length, uint64_t *placing, size_t placing_words);
+
+/* Plans up to four halls on one fuse, so that in every slot at most `limit` blowers are busy, those of all halls
+ * counted together. `halls` says how many halls there are, and each lends a sheet and both buffers as for
+ * kiwimound_plan_both.
+ *
+ * The limit and the number of halls are looked at before any sheet; 14 refuses the whole call, and then no hall has a
+ * byte or word changed. Otherwise hall 1 is planned, then hall 2 and so on, each as kiwimound_plan_both plans a sheet
+ * but with fewer blowers in some slots: no more than the halls before it leave of the limit there. Each hall has its
+ * own number, line and length, in hall[h - 1]: refusals 1 to 9 and 13, then 10 for either of its two buffers, then 12.
+ * What a held hall's listing gives as capacity is the sum over the slots shown of the blowers that it could have had.
+ *
+ * A refused hall, by 10 or 12 too, takes nothing of the limit, nor does any hall in slots after its day; later halls
+ * are planned all the same. What a hall lends has no bearing on the halls before it.
+ *
+ * Of a hall past `halls` nothing is read and nothing changed. It lends lengths of 0, with pointers that are not null
+ * and are aligned; those of another hall's memory will do. */
+kiwimound_halls kiwimound_plan_halls(uint32_t limit, uint32_t halls,
+                                     const uint8_t *sheet_1, size_t sheet_1_length,
+                                     uint8_t *listing_1, size_t listing_1_length,
+                                     uint64_t *placing_1, size_t placing_1_words,
+                                     const uint8_t *sheet_2, size_t sheet_2_length,
+                                     uint8_t *listing_2, size_t listing_2_length,
+                                     uint64_t *placing_2, size_t placing_2_words,
+                                     const uint8_t *sheet_3, size_t sheet_3_length,
+                                     uint8_t *listing_3, size_t listing_3_length,
+                                     uint64_t *placing_3, size_t placing_3_words,
+                                     const uint8_t *sheet_4, size_t sheet_4_length,
+                                     uint8_t *listing_4, size_t listing_4_length,
+                                     uint64_t *placing_4, size_t placing_4_words);
 
 /* Plans a sheet for its number alone: refusals 1 to 9 and 13, then 12, `length` 0. Changes nothing. */
 kiwimound_planned kiwimound_plan_number(const uint8_t *sheet, size_t sheet_length);

@@ -1,6 +1,6 @@
 /* Every call of the library, on the days of document 01 ("Days at the edge"), on days with several meals for a tank, on
- * days for the placing, for the bill and for causes, and on practice sheets: what it answers, what it writes, and what
- * keeps its value. */
+ * days for the placing, for the bill and for causes, on halls and on practice sheets: what it answers, what it writes,
+ * and what keeps its value. */
 #include "kiwimound.h"
 
 #include <stdio.h>
@@ -522,6 +522,277 @@ static void test_practice(void)
     EXPECT(planned != 0 && held != 0 && planned + held == COUNT);
 }
 
+/* What a hall lends, and what is to become of it: number and line, and the listing and placing if these are written. */
+struct hall {
+    const char *sheet;
+    size_t listing_bytes, placing_words;
+    uint32_t number, line;
+    const char *listing;
+    uint64_t placing[KIWIMOUND_PLACING_WORDS];
+};
+
+#define WHOLE KIWIMOUND_LISTING_BYTES, KIWIMOUND_PLACING_WORDS
+
+static uint8_t listings[KIWIMOUND_MAX_HALLS][KIWIMOUND_LISTING_BYTES + SPARE];
+static uint64_t placings[KIWIMOUND_MAX_HALLS][LENT_WORDS];
+
+static kiwimound_halls plan_halls(uint32_t limit, uint32_t count, const struct hall halls[KIWIMOUND_MAX_HALLS])
+{
+#define LEND_HALL(h) \
+    (const uint8_t *)halls[h].sheet, strlen(halls[h].sheet), listings[h], halls[h].listing_bytes, placings[h], \
+        halls[h].placing_words
+    memset(listings, GUARD, sizeof listings);
+    memset(placings, GUARD, sizeof placings);
+    return kiwimound_plan_halls(limit, count, LEND_HALL(0), LEND_HALL(1), LEND_HALL(2), LEND_HALL(3));
+#undef LEND_HALL
+}
+
+/* The answer of hall h, from 0, is this one, and its buffers hold this at their front and as before after it. */
+static bool is_hall(size_t h, kiwimound_planned p, const struct hall *expected)
+{
+    const size_t length = expected->listing == NULL ? 0 : strlen(expected->listing);
+    const size_t size = expected->listing == NULL ? 0 : sizeof expected->placing;
+    return p.number == expected->number && p.line == expected->line && p.length == length &&
+           memcmp(listings[h], expected->listing == NULL ? "" : expected->listing, length) == 0 &&
+           memcmp(placings[h], expected->placing, size) == 0 &&
+           kept(listings[h], sizeof listings[h], length) && kept(placings[h], sizeof placings[h], size);
+}
+
+/* The halls are planned as expected. Those past `count` are not there: zeros, and nothing changed. */
+static bool are_halls(uint32_t limit, uint32_t count, const struct hall halls[KIWIMOUND_MAX_HALLS])
+{
+    static const struct hall absent;
+    const kiwimound_halls planned = plan_halls(limit, count, halls);
+    bool are = planned.number == 0 && planned.line == 0;
+    for (size_t h = 0; h < KIWIMOUND_MAX_HALLS; h++)
+        are = are && is_hall(h, planned.hall[h], h < count ? &halls[h] : &absent);
+    return are;
+}
+
+/* What planning alone makes of three days, for halls that the limit does not reach. */
+#define FOUR_SLOTS_HALL FOUR_SLOTS, WHOLE, 0, 0, FOUR_SLOTS_PLAN, {1, 1, 2 | 4, 2}
+#define HELD_HALL HELD, WHOLE, KIWIMOUND_HELD, 0, HELD_LISTING, {0}
+#define ONE_FEEDING_HALL \
+    ONE_FEEDING, WHOLE, 0, 0, \
+        "PLAN\n" \
+        "    2    1    2    1\n" \
+        "    1    1    2    0\n" \
+        "    1    3    3    2\n" \
+        "    3    1    1    1\n" \
+        "    0    4    0    0\n", \
+        {0, 0, 1}
+/* A hall that is refused for its length, and one whose buffers are too short though its sheet has a plan. */
+#define NO_SHEET_HALL "", WHOLE, KIWIMOUND_BAD_LENGTH, 0, NULL, {0}
+#define SHORT_HALL \
+    FOUR_SLOTS, KIWIMOUND_LISTING_BYTES - 1, KIWIMOUND_PLACING_WORDS, KIWIMOUND_SHORT_BUFFER, 0, NULL, {0}
+
+/* Two blowers for four halls. The first takes 1, 1, 2 and 1 of them, so that the others have 1, 1, 0 and 1 in the slots
+ * from 1 on; the second then takes the one in slot 2, and the third finds none in the slots 2 and 3. */
+static void test_halls(void)
+{
+    static const struct hall halls[] = {
+        {FOUR_SLOTS_HALL},
+        {ONE_FEEDING, WHOLE, 0, 0, /* alone it would be fed in slot 3 */
+         "PLAN\n"
+         "    2    1    3    1\n"
+         "    1    1    1    0\n"
+         "    1    2    2    2\n"
+         "    1    3    3    0\n"
+         "    2    1    1    1\n"
+         "    0    4    0    0\n",
+         {0, 1}},
+        {"    3    1    1    1\n"
+         "    5    2    3    1\n",
+         WHOLE, KIWIMOUND_HELD, 0,
+         "HELD\n"
+         "   12    2    1    0\n"
+         "    2    0    0    0\n"
+         "    3    0    0    0\n",
+         {0}},
+        {"    4    2    0    2\n" /* nothing is taken by the hall before */
+         "    1    1    4    1\n"
+         "    2    1    4    1\n",
+         WHOLE, 0, 0,
+         "PLAN\n"
+         "    2    2    4    2\n"
+         "    1    1    1    2\n"
+         "    1    2    3    0\n"
+         "    1    4    4    2\n"
+         "    2    1    4    0\n"
+         "    1    1    1    1\n"
+         "    4    1    2    1\n"
+         "    0    4    0    0\n",
+         {1, 0, 0, 2}},
+    };
+    for (uint32_t count = 1; count <= KIWIMOUND_MAX_HALLS; count++)
+        EXPECT(are_halls(2, count, halls));
+
+    /* Whatever a hall lends, those before it are planned as they were, and those after a refused one as without it. */
+    static const struct hall others[] = {
+        {NO_SHEET_HALL},
+        {SHORT_HALL},
+        {FOUR_SLOTS, KIWIMOUND_LISTING_BYTES, KIWIMOUND_PLACING_WORDS - 1, KIWIMOUND_SHORT_BUFFER, 0, NULL, {0}},
+        {HELD, 0, 0, KIWIMOUND_SHORT_BUFFER, 0, NULL, {0}},
+        {BAD_WINDOW, 0, 0, KIWIMOUND_BAD_WINDOW, 3, NULL, {0}},
+        {BAD_MEAL, WHOLE, KIWIMOUND_BAD_MEAL, 3, NULL, {0}},
+    };
+    for (size_t i = 0; i < sizeof others / sizeof *others; i++) {
+        EXPECT(are_halls(2, 4, (const struct hall[]){halls[0], halls[1], others[i], halls[3]}));
+        EXPECT(are_halls(2, 4, (const struct hall[]){halls[0], halls[1], halls[2], others[i]}));
+        EXPECT(are_halls(2, 3, (const struct hall[]){others[i], halls[0], halls[1], others[i]}));
+        EXPECT(are_halls(2, 4, (const struct hall[]){halls[0], others[i], others[i], halls[1]}));
+    }
+    /* Longer buffers keep what comes after. */
+    struct hall longer[KIWIMOUND_MAX_HALLS];
+    memcpy(longer, halls, sizeof longer);
+    for (size_t h = 0; h < KIWIMOUND_MAX_HALLS; h++) {
+        longer[h].listing_bytes += SPARE;
+        longer[h].placing_words += h;
+    }
+    EXPECT(are_halls(2, 4, longer));
+
+    /* The other way round the first hall has its feeding in slot 3, and the second one blower there. */
+    static const struct hall exchanged[KIWIMOUND_MAX_HALLS] = {
+        {ONE_FEEDING_HALL},
+        {FOUR_SLOTS, WHOLE, 0, 0,
+         "PLAN\n"
+         "    9    2    4    5\n"
+         "    1    1    4    2\n"
+         "    2    1    1    0\n"
+         "    2    2    2    2\n"
+         "    2    3    4    0\n"
+         "    1    1    1    1\n"
+         "    2    1    1    2\n"
+         "    2    2    2    1\n"
+         "    3    1    3    1\n"
+         "    4    1    2    2\n"
+         "    0   16    0    0\n",
+         {1, 1 | 2, 4, 2}},
+        {NO_SHEET_HALL},
+        {NO_SHEET_HALL},
+    };
+    EXPECT(are_halls(2, 2, exchanged));
+}
+
+static void test_halls_alone(void)
+{
+    /* From 5 on the limit leaves each hall all its blowers: those that are planned take up to 2, 2 and 1 in a slot. */
+    static const struct hall alone[] = {
+        {FOUR_SLOTS_HALL},
+        {HELD_HALL},
+        {TWO_MEALS, WHOLE, 0, 0, TWO_MEALS_PLAN, {1, 4, 1 | 4, 4, 0, 0, 0, 0, 2, 2}},
+        {ONE_FEEDING_HALL},
+    };
+    for (uint32_t limit = 5; limit <= KIWIMOUND_MAX_LIMIT; limit++)
+        EXPECT(are_halls(limit, 4, alone));
+
+    /* One blower: a held hall takes nothing, and a hall takes nothing after its day. */
+    static const struct hall one_blower[] = {
+        {HELD_HALL},
+        {FOUR_SLOTS, WHOLE, KIWIMOUND_HELD, 0, /* five feedings in four slots; the first three have four of them */
+         "HELD\n"
+         "   12    3    4    3\n"
+         "    1    0    0    0\n"
+         "    2    0    0    0\n"
+         "    3    0    0    0\n",
+         {0}},
+        {"    1    1    0    1\n"
+         "    9    1    1    1\n",
+         WHOLE, 0, 0,
+         "PLAN\n"
+         "    1    1    1    1\n"
+         "    1    1    1    2\n"
+         "    1    1    9    1\n"
+         "    0    2    0    0\n",
+         {1}},
+        {ONE_FEEDING_HALL},
+    };
+    EXPECT(are_halls(1, 4, one_blower));
+}
+
+/* 14 comes before everything that the halls lend, and changes nothing. */
+static void test_halls_refused(void)
+{
+    static const struct hall halls[] = {{FOUR_SLOTS_HALL}, {NO_SHEET_HALL}, {SHORT_HALL}, {HELD_HALL}};
+    static const struct {
+        uint32_t limit, count;
+    } bad[] = {
+        {0, 0}, {0, 1}, {0, 4}, {33, 1}, {33, 4}, {256 + 8, 2}, {UINT32_MAX, 2}, /* the limit */
+        {1, 0}, {32, 0}, {1, 5}, {32, 5}, {8, 256 + 2}, {8, UINT32_MAX},         /* the halls */
+    };
+    for (size_t i = 0; i < sizeof bad / sizeof *bad; i++) {
+        const kiwimound_halls refused = plan_halls(bad[i].limit, bad[i].count, halls);
+        EXPECT(refused.number == KIWIMOUND_BAD_HALLS && refused.line == 0);
+        for (size_t h = 0; h < KIWIMOUND_MAX_HALLS; h++) {
+            EXPECT(refused.hall[h].number == 0 && refused.hall[h].line == 0 && refused.hall[h].length == 0);
+            EXPECT(kept(listings[h], sizeof listings[h], 0) && kept(placings[h], sizeof placings[h], 0));
+        }
+    }
+    /* Halls that are not there lend no bytes, at an address that another hall's memory has. */
+    memset(listings, GUARD, sizeof listings);
+    memset(placings, GUARD, sizeof placings);
+    const uint8_t *sheet = (const uint8_t *)FOUR_SLOTS;
+#define NO_HALL sheet, 0, listings[0], 0, placings[0], 0
+    const kiwimound_halls planned =
+        kiwimound_plan_halls(2, 1, LEND(FOUR_SLOTS), listings[0], KIWIMOUND_LISTING_BYTES, placings[0],
+                             KIWIMOUND_PLACING_WORDS, NO_HALL, NO_HALL, NO_HALL);
+#undef NO_HALL
+    EXPECT(planned.number == 0 && planned.line == 0 && is_hall(0, planned.hall[0], &halls[0]));
+}
+
+/* How many feedings a hall has in a slot, from 0. */
+static uint32_t feedings_in(size_t h, size_t slot)
+{
+    uint32_t feedings = 0;
+    for (uint64_t word = placings[h][slot]; word != 0; word &= word - 1)
+        feedings++;
+    return feedings;
+}
+
+/* Practice sheets in groups of four, behind limits up to twice the blowers of one hall: no slot has more busy blowers
+ * than the limit, nor a hall more than its own, and every ration of a planned hall has its volume in its window. */
+static void test_halls_of_practice(void)
+{
+    static uint8_t sheets[KIWIMOUND_MAX_HALLS][KIWIMOUND_PRACTICE_BYTES];
+    size_t lengths[KIWIMOUND_MAX_HALLS];
+    uint32_t planned = 0, held = 0, held_by_limit = 0, at_limit = 0;
+    for (uint32_t group = 0; group < 48; group++) {
+        const uint32_t limit = 1 + group % (2 * KIWIMOUND_MAX_BLOWERS);
+        uint32_t used[KIWIMOUND_MAX_SLOTS] = {0};
+        for (uint32_t h = 0; h < KIWIMOUND_MAX_HALLS; h++)
+            lengths[h] = kiwimound_practice(KIWIMOUND_MAX_HALLS * group + h, sheets[h], sizeof sheets[h]).length;
+#define LEND_HALL(h) sheets[h], lengths[h], listings[h], sizeof listings[h], placings[h], LENT_WORDS
+        const kiwimound_halls p =
+            kiwimound_plan_halls(limit, KIWIMOUND_MAX_HALLS, LEND_HALL(0), LEND_HALL(1), LEND_HALL(2), LEND_HALL(3));
+#undef LEND_HALL
+        EXPECT(p.number == 0 && p.line == 0);
+        for (size_t h = 0; h < KIWIMOUND_MAX_HALLS; h++) {
+            const kiwimound_reading r = kiwimound_read(sheets[h], lengths[h]);
+            const bool is_planned_alone = kiwimound_plan_number(sheets[h], lengths[h]).number == 0;
+            EXPECT(p.hall[h].line == 0 && (p.hall[h].number == 0 || p.hall[h].number == KIWIMOUND_HELD));
+            EXPECT(is_planned_alone || p.hall[h].number == KIWIMOUND_HELD);
+            planned += p.hall[h].number == 0;
+            held += p.hall[h].number != 0;
+            held_by_limit += p.hall[h].number != 0 && is_planned_alone;
+            for (size_t t = 0; t < KIWIMOUND_MAX_SLOTS; t++) {
+                EXPECT(feedings_in(h, t) <= (p.hall[h].number == 0 ? r.blowers : 0));
+                used[t] += feedings_in(h, t);
+            }
+            for (uint32_t i = 0; p.hall[h].number == 0 && i < r.rations; i++) {
+                uint32_t fed = 0, volume = r.numbers[4 * i + 3];
+                for (uint32_t t = r.numbers[4 * i + 1]; t <= r.numbers[4 * i + 2]; t++)
+                    fed += (placings[h][t - 1] >> i & 1) != 0;
+                EXPECT(fed == volume);
+            }
+        }
+        for (size_t t = 0; t < KIWIMOUND_MAX_SLOTS; t++) {
+            EXPECT(used[t] <= limit);
+            at_limit += used[t] == limit;
+        }
+    }
+    EXPECT(planned > 10 && held > 10 && held_by_limit > 10 && at_limit > 100);
+}
+
 static void test_compare(void)
 {
     kiwimound_compared c = kiwimound_compare(LEND(ONE_FEEDING), LEND(LAST_SLOT));
@@ -740,6 +1011,10 @@ int main(void)
     test_held();
     test_refused();
     test_practice();
+    test_halls();
+    test_halls_alone();
+    test_halls_refused();
+    test_halls_of_practice();
     test_compare();
     test_causes();
     test_causes_cut();

@@ -6,8 +6,22 @@
 #include <stddef.h>
 #include <stdint.h>
 
-/* Each argument of a call has a place of its own. */
-enum place { SHEET, SECOND, LISTING, PLACING, OUT, MARKS, LOWS, HIGHS, NUMBERS, PLACES };
+/* Each argument of a call has a place of its own; of halls, each hall's, from the one named on. */
+enum place {
+    SHEET,
+    SECOND,
+    LISTING,
+    PLACING,
+    OUT,
+    MARKS,
+    LOWS,
+    HIGHS,
+    NUMBERS,
+    HALL_SHEET,
+    HALL_LISTING = HALL_SHEET + 4,
+    HALL_PLACING = HALL_LISTING + 4,
+    PLACES = HALL_PLACING + 4
+};
 
 /* A copy of these bytes, or numbers, in memory of just that size. */
 const uint8_t *lend_bytes(enum place place, const void *bytes, size_t size);

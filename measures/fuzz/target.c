@@ -38,6 +38,7 @@ int LLVMFuzzerTestOneInput(const uint8_t *data, size_t size) {
     reach(700 + o.energy / 16);
     reach(2000 + o.cents / 4);
     reach(3300 + o.causes / 8);
+    reach(3700 + check_halls(sheet, size, choice)); /* below 256 */
 #endif
     return 0;
 }

@@ -8,7 +8,7 @@
 #include <stdlib.h>
 #include <string.h>
 
-enum { STACK = 1 << 20, PAINT = 0xA5, LIMIT = 64 << 10 };
+enum { STACK = 1 << 20, PAINT = 0xA5, LIMIT = 32 << 10 };
 
 static uint8_t stack[STACK] __attribute__((aligned(4096)));
 static uint8_t sheet[70000], listing[KIWIMOUND_LISTING_BYTES], out[70000];
@@ -30,6 +30,15 @@ static void plan(void) { kiwimound_plan(sheet, size, listing, sizeof listing); }
 static void plan_placing(void) { kiwimound_plan_placing(sheet, size, placing, KIWIMOUND_PLACING_WORDS); }
 static void plan_both(void) {
     kiwimound_plan_both(sheet, size, listing, sizeof listing, placing, KIWIMOUND_PLACING_WORDS);
+}
+/* The sheet four times, behind a limit that leaves the second hall fewer blowers and the last none. */
+static void plan_halls(void) {
+    static uint8_t listings[KIWIMOUND_MAX_HALLS][KIWIMOUND_LISTING_BYTES];
+    static uint64_t placings[KIWIMOUND_MAX_HALLS][KIWIMOUND_PLACING_WORDS];
+#define LEND(h) sheet, size, listings[h], sizeof listings[h], placings[h], KIWIMOUND_PLACING_WORDS
+    kiwimound_plan_halls(12, KIWIMOUND_MAX_HALLS, LEND(0), LEND(1), LEND(2), LEND(3));
+    kiwimound_plan_halls(KIWIMOUND_MAX_LIMIT, KIWIMOUND_MAX_HALLS, LEND(0), LEND(1), LEND(2), LEND(3));
+#undef LEND
 }
 static void plan_number(void) { kiwimound_plan_number(sheet, size); }
 static void compare(void) { kiwimound_compare(sheet, size, sheet, size); }
@@ -60,6 +69,7 @@ static struct {
     {"plan", plan, 0},
     {"plan_placing", plan_placing, 0},
     {"plan_both", plan_both, 0},
+    {"plan_halls", plan_halls, 0},
     {"plan_number", plan_number, 0},
     {"compare", compare, 0},
     {"causes", causes, 0},

@@ -6,16 +6,18 @@
 
 int main(void) {
     static uint8_t sheet[70000];
-    uint32_t numbers[14] = {0}, sheets = 0;
+    uint32_t numbers[14] = {0}, fates[4] = {0}, sheets = 0;
     for (long n; (n = next_sheet(sheet, sizeof sheet)) >= 0; sheets++) {
         uint32_t choice = sheets * 2654435769u;
         check_reading(sheet, (size_t)n, choice);
         check_practice(choice);
         numbers[check_planning(sheet, (size_t)n, choice).number]++;
+        uint32_t halls = check_halls(sheet, (size_t)n, choice);
+        for (uint32_t h = 0; h < KIWIMOUND_MAX_HALLS; h++) fates[halls >> 2 * h & 3]++;
     }
     printf("%u sheets, by number:", sheets);
     for (uint32_t i = 0; i < 14; i++)
         if (numbers[i]) printf(" %u of %u", numbers[i], i);
-    printf("\n");
+    printf("\n%u halls planned, %u held, %u refused\n", fates[PLANNED], fates[HELD], fates[REFUSED]);
     return sheets == 0;
 }

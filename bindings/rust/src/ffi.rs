@@ -2,6 +2,8 @@
 //! are valid as lent, and `&mut` overlaps nothing. No other module is unsafe.
 #![allow(unsafe_code)]
 
+use std::array;
+
 /// The least length of a plan buffer.
 const LISTING_BYTES: usize = 32_303;
 /// The least length of a placing buffer, in words of 64 bits: a word for each slot that a day can have.
@@ -12,6 +14,8 @@ const CAUSES_BYTES: usize = 65_536;
 pub const LINE_BYTES: usize = 21;
 /// The most rations of a sheet.
 pub const MAX_RATIONS: usize = 64;
+/// The most halls that are planned together.
+const MAX_HALLS: usize = 4;
 /// Bytes of the longest practice sheet.
 const PRACTICE_BYTES: usize = LINE_BYTES * (MAX_RATIONS + 1);
 
@@ -47,6 +51,13 @@ pub struct Planned {
 }
 
 #[repr(C)]
+pub struct Halls {
+    pub number: u32,
+    pub line: u32,
+    pub hall: [Planned; MAX_HALLS],
+}
+
+#[repr(C)]
 pub struct Compared {
     pub number: u32,
     pub line: u32,
@@ -77,7 +88,8 @@ pub struct CausesAnswer {
 
 mod calls {
     use super::{
-        BoundsAnswer, CausesAnswer, Compared, Part, Planned, Reading, ShortfallAnswer, Written,
+        BoundsAnswer, CausesAnswer, Compared, Halls, Part, Planned, Reading, ShortfallAnswer,
+        Written,
     };
 
     extern "C" {
@@ -116,6 +128,34 @@ mod calls {
             placing: *mut u64,
             placing_words: usize,
         ) -> Planned;
+        pub fn kiwimound_plan_halls(
+            limit: u32,
+            halls: u32,
+            sheet_1: *const u8,
+            sheet_1_length: usize,
+            listing_1: *mut u8,
+            listing_1_length: usize,
+            placing_1: *mut u64,
+            placing_1_words: usize,
+            sheet_2: *const u8,
+            sheet_2_length: usize,
+            listing_2: *mut u8,
+            listing_2_length: usize,
+            placing_2: *mut u64,
+            placing_2_words: usize,
+            sheet_3: *const u8,
+            sheet_3_length: usize,
+            listing_3: *mut u8,
+            listing_3_length: usize,
+            placing_3: *mut u64,
+            placing_3_words: usize,
+            sheet_4: *const u8,
+            sheet_4_length: usize,
+            listing_4: *mut u8,
+            listing_4_length: usize,
+            placing_4: *mut u64,
+            placing_4_words: usize,
+        ) -> Halls;
         pub fn kiwimound_plan_number(sheet: *const u8, length: usize) -> Planned;
         pub fn kiwimound_compare(
             first: *const u8,
@@ -195,26 +235,92 @@ pub struct Day {
     pub placing: Vec<u64>,
 }
 
-/// Plans a sheet into buffers of their full size, so that none is too short.
+impl Day {
+    /// Before planning: buffers of their full size, so that none is too short.
+    fn lent() -> Day {
+        Day {
+            number: 0,
+            listing: vec![0; LISTING_BYTES],
+            placing: vec![0; PLACING_WORDS],
+        }
+    }
+
+    /// In place of a hall that is not there: empty buffers.
+    fn absent() -> Day {
+        Day {
+            number: 0,
+            listing: Vec::new(),
+            placing: Vec::new(),
+        }
+    }
+
+    /// Takes over what planning into these buffers answered.
+    fn settle(&mut self, planned: &Planned) {
+        self.number = planned.number;
+        self.listing.truncate(planned.length);
+    }
+}
+
 pub fn plan(sheet: &[u8]) -> Day {
-    let mut listing = vec![0; LISTING_BYTES];
-    let mut placing = vec![0; PLACING_WORDS];
+    let mut day = Day::lent();
     let planned = unsafe {
         calls::kiwimound_plan_both(
             sheet.as_ptr(),
             sheet.len(),
-            listing.as_mut_ptr(),
-            listing.len(),
-            placing.as_mut_ptr(),
-            placing.len(),
+            day.listing.as_mut_ptr(),
+            day.listing.len(),
+            day.placing.as_mut_ptr(),
+            day.placing.len(),
         )
     };
-    listing.truncate(planned.length);
-    Day {
-        number: planned.number,
-        listing,
-        placing,
+    day.settle(&planned);
+    day
+}
+
+/// Plans sheets as halls, in their order. There are none where the limit or their number is refused.
+pub fn plan_halls(limit: u32, sheets: &[&[u8]]) -> Option<Vec<Day>> {
+    // a count that 32 bits can't hold is refused as any count above 4 is
+    let halls = u32::try_from(sheets.len()).unwrap_or(u32::MAX);
+    let [s1, s2, s3, s4] = array::from_fn(|h| sheets.get(h).copied().unwrap_or(&[]));
+    let mut days: [Day; MAX_HALLS] = array::from_fn(|h| match sheets.get(h) {
+        Some(_) => Day::lent(),
+        None => Day::absent(),
+    });
+    let [d1, d2, d3, d4] = &mut days;
+    let answer = unsafe {
+        calls::kiwimound_plan_halls(
+            limit,
+            halls,
+            s1.as_ptr(),
+            s1.len(),
+            d1.listing.as_mut_ptr(),
+            d1.listing.len(),
+            d1.placing.as_mut_ptr(),
+            d1.placing.len(),
+            s2.as_ptr(),
+            s2.len(),
+            d2.listing.as_mut_ptr(),
+            d2.listing.len(),
+            d2.placing.as_mut_ptr(),
+            d2.placing.len(),
+            s3.as_ptr(),
+            s3.len(),
+            d3.listing.as_mut_ptr(),
+            d3.listing.len(),
+            d3.placing.as_mut_ptr(),
+            d3.placing.len(),
+            s4.as_ptr(),
+            s4.len(),
+            d4.listing.as_mut_ptr(),
+            d4.listing.len(),
+            d4.placing.as_mut_ptr(),
+            d4.placing.len(),
+        )
+    };
+    for (day, planned) in days.iter_mut().zip(&answer.hall) {
+        day.settle(planned);
     }
+    (answer.number == 0).then(|| days.into_iter().take(sheets.len()).collect())
 }
 
 pub fn plan_number(sheet: &[u8]) -> Planned {

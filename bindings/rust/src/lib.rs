@@ -25,12 +25,14 @@
 
 mod causes;
 mod ffi;
+mod halls;
 mod listing;
 mod plan;
 mod refusal;
 mod sheet;
 
 pub use causes::{Cause, Causes, Ending};
+pub use halls::{plan_halls, HallsRefusal};
 pub use plan::{Feeding, Held, Plan, State, Stretch};
 pub use refusal::{Fault, Refusal};
 pub use sheet::{Bounds, Comparison, Head, Ration, Sheet};

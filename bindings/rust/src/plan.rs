@@ -172,7 +172,7 @@ impl Plan {
         word.copied().unwrap_or(0)
     }
 
-    /// The listing's bytes, as the program `planner` writes them.
+    /// The listing's bytes: of a sheet planned alone, as the program `planner` writes them.
     pub fn listing(&self) -> &[u8] {
         &self.listing
     }
@@ -185,7 +185,8 @@ pub struct Held {
     pub slots: Vec<u32>,
     /// The feedings that are forced into them.
     pub forced: u32,
-    /// The feedings that the blowers can make in them, fewer than are forced.
+    /// The feedings that the blowers can make in them, fewer than are forced; of a hall, those that the halls before it
+    /// leave it there.
     pub capacity: u32,
 }
 

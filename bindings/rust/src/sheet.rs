@@ -185,7 +185,11 @@ impl Sheet {
     /// The sheet is held for want of blowers: some slots have more feedings forced into them than the blowers can make
     /// there.
     pub fn plan(&self) -> Result<Plan, Held> {
-        let day = ffi::plan(&self.bytes);
+        self.outcome(ffi::plan(&self.bytes))
+    }
+
+    /// What planning this sheet came to, alone or as a hall.
+    pub(crate) fn outcome(&self, day: ffi::Day) -> Result<Plan, Held> {
         match day.number {
             0 => {
                 let tanks = self.rations.iter().map(|r| r.tank).collect();

@@ -5,6 +5,7 @@
 mod causes;
 mod engines;
 mod growth;
+mod halls;
 mod lemon;
 mod planning;
 mod plot;
@@ -17,16 +18,19 @@ use std::process::ExitCode;
 
 const USAGE: &str = "usage: benchmark planning SHEETS SLOW-SHEETS [LEMON-PROGRAM]
        benchmark causes SHEETS SLOW-SHEETS
+       benchmark halls GROUPS SLOW-GROUPS
        benchmark questions SHEETS SLOW-SHEETS
        benchmark growth SHEETS PLOT
        benchmark once library|plain|placing|both|causes KIND SHEETS
        benchmark shortfall library|plain|by-slot KIND SHEETS
        benchmark practice practice|write|read RATIONS SEEDS
-SLOW-SHEETS is how many of the sheets the slower implementations get. PLOT is the file that the
-plot is written to. `once` plans each sheet once, by the library into a plan buffer, a placing
-buffer or both, or lists its causes, `shortfall` asks the shortfall of each once, and `practice`
-makes, writes or reads the practice sheets of the first SEEDS seeds that draw RATIONS rations, for
-instructions to be counted.";
+       benchmark halls together|alone KIND GROUPS
+SLOW-SHEETS is how many of the sheets the slower implementations get, and SLOW-GROUPS how many of
+the groups of four. PLOT is the file that the plot is written to. `once` plans each sheet once, by
+the library into a plan buffer, a placing buffer or both, or lists its causes, `shortfall` asks the
+shortfall of each once, `practice` makes, writes or reads the practice sheets of the first SEEDS
+seeds that draw RATIONS rations, and `halls` with a KIND plans each group once, as halls or one
+sheet after another, for instructions to be counted.";
 
 fn answer(words: &[&str]) -> Option<Result<(), String>> {
     Some(match *words {
@@ -36,6 +40,11 @@ fn answer(words: &[&str]) -> Option<Result<(), String>> {
             planning::run(count.parse().ok()?, slow.parse().ok()?, Some(&lemon))
         }
         ["causes", count, slow] => causes::run(count.parse().ok()?, slow.parse().ok()?),
+        ["halls", count, slow] => halls::run(count.parse().ok()?, slow.parse().ok()?),
+        ["halls", way, kind, count] => {
+            halls::once(way, sheets::Kind::named(kind)?, count.parse().ok()?)?;
+            Ok(())
+        }
         ["questions", count, slow] => questions::run(count.parse().ok()?, slow.parse().ok()?),
         ["growth", count, plot] => growth::run(count.parse().ok()?, &PathBuf::from(plot)),
         ["once", engine, kind, count] => {

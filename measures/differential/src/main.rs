@@ -1,11 +1,13 @@
 //! The static libraries against the reference implementation: every call, with buffers of
-//! every length that matters, on many sheets of all kinds; and the practice sheets of all
-//! seeds of a range, with their plans.
+//! every length that matters, on many sheets of all kinds and on groups of halls; the practice
+//! sheets of all seeds of a range, with their plans; and groups of halls alone.
 
 mod calls;
 mod causes;
+mod cores;
 mod expected;
 mod form;
+mod halls;
 mod lent;
 mod planning;
 mod practice;
@@ -16,6 +18,7 @@ mod values;
 
 use calls::{Buffers, Checked};
 use expected::Expected;
+use halls::{check_group, HallBuffers};
 use practice::{check_practice, seed_at, LAST_OF_PROGRAM};
 use sheets::mixture::{draws_at, kind_at, KINDS};
 use std::process::ExitCode;
@@ -23,6 +26,9 @@ use std::time::Instant;
 
 /// Where the sheet of the first difference is written.
 const DIFFERENCE: &str = "difference.sheet";
+
+/// A group of halls is planned beside the first of so many sheets.
+const SHEETS_TO_A_GROUP: usize = 5;
 
 /// Days by the number that planning gives, 0 to 13.
 type ByNumber = [u64; 14];
@@ -55,8 +61,8 @@ impl Tally {
     }
 }
 
-/// Makes every call on so many sheets of the mixture, from a place on, and writes the practice
-/// sheet of a seed beside each.
+/// Makes every call on so many sheets of the mixture, from a place on, writes the practice sheet
+/// of a seed beside each, and plans a group of halls beside some.
 fn compare(count: usize, from: usize) -> Checked {
     let start = Instant::now();
     let mut tally = Tally {
@@ -65,6 +71,7 @@ fn compare(count: usize, from: usize) -> Checked {
         changed: [0; 14],
     };
     let mut buffers = Buffers::new();
+    let (mut hall_buffers, mut halls) = (HallBuffers::new(), halls::Tally::default());
     let mut second = Expected::of(Vec::new());
     for place in from..from + count {
         let mut draws = draws_at(place);
@@ -85,6 +92,9 @@ fn compare(count: usize, from: usize) -> Checked {
         let seed = seed_at(place, &mut draws);
         check_practice(seed, &mut draws, &mut buffers)
             .map_err(|message| format!("seed {seed}: {message}"))?;
+        if place.is_multiple_of(SHEETS_TO_A_GROUP) {
+            check_group(place / SHEETS_TO_A_GROUP, &mut hall_buffers, &mut halls)?;
+        }
         let number = expected.outcome() as usize;
         tally.kinds[kind][number] += 1;
         if expected.is_full() {
@@ -93,6 +103,7 @@ fn compare(count: usize, from: usize) -> Checked {
         second = expected;
     }
     tally.print();
+    halls.print();
     let seconds = start.elapsed().as_secs_f64();
     println!("{count} sheets and as many practice sheets, no difference, {seconds:.0} s");
     Ok(())
@@ -100,7 +111,9 @@ fn compare(count: usize, from: usize) -> Checked {
 
 const USAGE: &str = "usage: differential [COUNT [FROM]]
        differential practice [FIRST LAST]
-FIRST and LAST are seeds of 32 bits, 0 and 99999 if none are given.";
+       differential halls [COUNT [FROM]]
+FIRST and LAST are seeds of 32 bits, 0 and 99999 if none are given. COUNT is how many sheets, a
+million if none is given, or groups of halls, 200000.";
 
 /// Runs what the words ask for, if they ask for anything.
 fn run(words: &[&str]) -> Option<Checked> {
@@ -108,6 +121,9 @@ fn run(words: &[&str]) -> Option<Checked> {
         [] => compare(1_000_000, 0),
         ["practice"] => seeds::run(0..=LAST_OF_PROGRAM),
         ["practice", first, last] => seeds::run(first.parse().ok()?..=last.parse().ok()?),
+        ["halls"] => halls::run(200_000, 0),
+        ["halls", count] => halls::run(count.parse().ok()?, 0),
+        ["halls", count, from] => halls::run(count.parse().ok()?, from.parse().ok()?),
         [count] => compare(count.parse().ok()?, 0),
         [count, from] => compare(count.parse().ok()?, from.parse().ok()?),
         _ => return None,

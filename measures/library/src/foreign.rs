@@ -10,6 +10,14 @@ pub struct Planned {
 
 #[repr(C)]
 #[derive(Clone, Copy, Debug, PartialEq, Eq)]
+pub struct Halls {
+    pub number: u32,
+    pub line: u32,
+    pub hall: [Planned; 4],
+}
+
+#[repr(C)]
+#[derive(Clone, Copy, Debug, PartialEq, Eq)]
 pub struct Compared {
     pub number: u32,
     pub line: u32,
@@ -84,6 +92,34 @@ extern "C" {
         placing: *mut u64,
         placing_words: usize,
     ) -> Planned;
+    pub fn kiwimound_plan_halls(
+        limit: u32,
+        halls: u32,
+        b1: *const u8,
+        n1: usize,
+        listing1: *mut u8,
+        listing1_size: usize,
+        placing1: *mut u64,
+        placing1_words: usize,
+        b2: *const u8,
+        n2: usize,
+        listing2: *mut u8,
+        listing2_size: usize,
+        placing2: *mut u64,
+        placing2_words: usize,
+        b3: *const u8,
+        n3: usize,
+        listing3: *mut u8,
+        listing3_size: usize,
+        placing3: *mut u64,
+        placing3_words: usize,
+        b4: *const u8,
+        n4: usize,
+        listing4: *mut u8,
+        listing4_size: usize,
+        placing4: *mut u64,
+        placing4_words: usize,
+    ) -> Halls;
     pub fn kiwimound_plan_number(b: *const u8, n: usize) -> Planned;
     pub fn kiwimound_compare(a: *const u8, m: usize, b: *const u8, n: usize) -> Compared;
     pub fn kiwimound_causes(b: *const u8, n: usize, out: *mut u8, size: usize) -> CausesAnswer;

@@ -5,7 +5,7 @@ mod foreign;
 mod records;
 
 pub use foreign::{
-    BoundsAnswer, CausesAnswer, Compared, Part, Planned, Reading, ShortfallAnswer, Written,
+    BoundsAnswer, CausesAnswer, Compared, Halls, Part, Planned, Reading, ShortfallAnswer, Written,
 };
 pub use records::{Ration, Records};
 
@@ -28,6 +28,48 @@ pub fn plan_both(sheet: &[u8], listing: &mut [u8], placing: &mut [u64]) -> Plann
     let (out, size) = (listing.as_mut_ptr(), listing.len());
     unsafe {
         foreign::kiwimound_plan_both(bytes, n, out, size, placing.as_mut_ptr(), placing.len())
+    }
+}
+
+/// What a hall lends.
+pub struct Hall<'a> {
+    pub sheet: &'a [u8],
+    pub listing: &'a mut [u8],
+    pub placing: &'a mut [u64],
+}
+
+/// Plans the first `halls` of four halls that share a limit.
+pub fn plan_halls(limit: u32, halls: u32, lent: [Hall; 4]) -> Halls {
+    let [h1, h2, h3, h4] = lent;
+    unsafe {
+        foreign::kiwimound_plan_halls(
+            limit,
+            halls,
+            h1.sheet.as_ptr(),
+            h1.sheet.len(),
+            h1.listing.as_mut_ptr(),
+            h1.listing.len(),
+            h1.placing.as_mut_ptr(),
+            h1.placing.len(),
+            h2.sheet.as_ptr(),
+            h2.sheet.len(),
+            h2.listing.as_mut_ptr(),
+            h2.listing.len(),
+            h2.placing.as_mut_ptr(),
+            h2.placing.len(),
+            h3.sheet.as_ptr(),
+            h3.sheet.len(),
+            h3.listing.as_mut_ptr(),
+            h3.listing.len(),
+            h3.placing.as_mut_ptr(),
+            h3.placing.len(),
+            h4.sheet.as_ptr(),
+            h4.sheet.len(),
+            h4.listing.as_mut_ptr(),
+            h4.listing.len(),
+            h4.placing.as_mut_ptr(),
+            h4.placing.len(),
+        )
     }
 }
 
