@@ -366,7 +366,9 @@ hallDays =
     ∷ day (hallsFor 1 (firstSlot ∷ secondSlot ∷ firstSlot ∷ [])) (numbers (0 ∷ 0 ∷ 0 ∷ 0 ∷ 0 ∷ 0 ∷ 12 ∷ 0 ∷ []))
     ∷ day (hallsFor 33 (firstSlot ∷ [])) (numbers (14 ∷ 0 ∷ 0 ∷ 0 ∷ []))
     ∷ day (hallsFor 0 (firstSlot ∷ [])) (numbers (14 ∷ 0 ∷ 0 ∷ 0 ∷ []))
+    ∷ day (hallsFor 32 (firstSlot ∷ firstSlot ∷ [])) (numbers (0 ∷ 0 ∷ 0 ∷ 0 ∷ 0 ∷ 0 ∷ []))
     ∷ day (hallsFor 32 []) (numbers (14 ∷ 0 ∷ []))
+    ∷ day (hallsFor 1 (firstSlot ∷ firstSlot ∷ firstSlot ∷ firstSlot ∷ firstSlot ∷ [])) (numbers (14 ∷ 0 ∷ replicate 10 0))
     ∷ []
 
 pub hall-days-as-stated : AsStated hallDays

@@ -111,7 +111,8 @@ pub record DemandOne : Type 0 where
       × (NotZero (r .number) → r .same ≡ false)
   -- Halls: 14 before all sheets; then each hall has the checks of a planning call, under its own highs ------------
 
-  -- with 14, and for a hall that is not there: zeros, and buffers as they were
+  -- 32 and 4 are the paper's numbers. With 14, and for a hall that is not there: zeros, and buffers as they were. A
+  -- hall's problem is as `hall-is` says, and `halls-used` of demand 3 says what the halls before it use
   pub plan-halls : (limit halls : ℕ) (a b c d : Hall) → let hs = four a b c d in let r = hallsAnswer limit halls hs in
       FirstOf (hallsChecks (outside 1 32 limit) (outside 1 4 halls)) (r .number) (r .line)
       × ((i : ℕ) → i < 4 → (NotZero (r .number) ⊎ (halls ≤ i)) → (answerIn r i ≡ nothing) × (outcomeOf limit halls hs i .buffers ≡ hallIn hs i .buffers))
@@ -120,17 +121,19 @@ pub record DemandOne : Type 0 where
   pub halls-earlier : (limit halls : ℕ) (hs ks : List Hall) (i : ℕ) → i < 4 → take (suc i) hs ≡ take (suc i) ks
       → (answerIn (hallsAnswer limit halls hs) i ≡ answerIn (hallsAnswer limit halls ks) i)
       × (outcomeOf limit halls hs i .buffers ≡ outcomeOf limit halls ks i .buffers)
-  -- a hall h that is refused, by whatever number, leaves the halls after it as if it were not there
-  pub halls-without : (limit n : ℕ) → hallsFaults limit n ≡ [] → hallsFaults limit (suc n) ≡ [] → (xs : List Hall) (h : Hall) (ys : List Hall) → length xs ≤ n
+  -- a hall h that is refused, by whatever number, leaves the halls after it as if it were not there: as in a call for
+  -- one hall less, to which some hall z is lent last
+  pub halls-without : (limit n : ℕ) → hallsFaults limit n ≡ [] → hallsFaults limit (suc n) ≡ [] → (xs : List Hall) (h : Hall) (ys : List Hall) (z : Hall)
+      → length (xs ++ ys) ≡ 3 → length xs ≤ n
       → NotZero (answerIn (hallsAnswer limit (suc n) (xs ++ (h ∷ ys))) (length xs) .number) → (j : ℕ) → length xs ≤ j → j < n
-      → (answerIn (hallsAnswer limit (suc n) (xs ++ (h ∷ ys))) (suc j) ≡ answerIn (hallsAnswer limit n (xs ++ ys)) j)
-      × (outcomeOf limit (suc n) (xs ++ (h ∷ ys)) (suc j) .buffers ≡ outcomeOf limit n (xs ++ ys) j .buffers)
-  -- one hall under a limit of at least its blowers has the answer and the buffers of `plan-both`
-  pub hall-alone : (limit : ℕ) → hallsFaults limit 1 ≡ [] → (h : Hall) (hs : List Hall) → sheetOf (h .bytes) .blowers ≤ limit
+      → (answerIn (hallsAnswer limit (suc n) (xs ++ (h ∷ ys))) (suc j) ≡ answerIn (hallsAnswer limit n (xs ++ (ys ++ (z ∷ [])))) j)
+      × (outcomeOf limit (suc n) (xs ++ (h ∷ ys)) (suc j) .buffers ≡ outcomeOf limit n (xs ++ (ys ++ (z ∷ []))) j .buffers)
+  -- the first hall, or the only one, under a limit of at least its blowers has the answer and the buffers of `plan-both`
+  pub hall-alone : (limit halls : ℕ) → hallsFaults limit halls ≡ [] → (h : Hall) (hs : List Hall) → sheetOf (h .bytes) .blowers ≤ limit
       → let p = alone (sheetOf (h .bytes)) in let r = planRefusal (h .bytes) (shortPlan (h .buffers .listing) || shortPlacing (h .buffers .placing)) in
-      (answerIn (hallsAnswer limit 1 (h ∷ hs)) 0 ≡ listedAnswer r (listingOf p))
-      × (outcomeOf limit 1 (h ∷ hs) 0 .buffers .listing ≡ listingAfter r (listingOf p) (h .buffers .listing))
-      × (outcomeOf limit 1 (h ∷ hs) 0 .buffers .placing ≡ placingAfter r (wordsFor p) (h .buffers .placing))
+      (answerIn (hallsAnswer limit halls (h ∷ hs)) 0 ≡ listedAnswer r (listingOf p))
+      × (outcomeOf limit halls (h ∷ hs) 0 .buffers .listing ≡ listingAfter r (listingOf p) (h .buffers .listing))
+      × (outcomeOf limit halls (h ∷ hs) 0 .buffers .placing ≡ placingAfter r (wordsFor p) (h .buffers .placing))
   -- Causes: the checks of a planning call, with 10 for a buffer under 65,536 bytes; on 12 the buffer is as it was
   pub causes : (b out : List ℕ) → let p = alone (sheetOf b) in let short = shortCauses out in
       let r = planRefusal b short in let a = causesAnswer r (endingsOf p) in

@@ -42,7 +42,7 @@ use Rattle.demands.specs.Halls.{hallIn, answerIn, problemIn, HallIs, bus
 use Rattle.demands.specs.AnswerLaws.{bytes-in-range, records-in-range, alone-is}
 use Rattle.demands.specs.OutcomeLaws.{written-listing, outcome-of, marks-of, high-alone}
 use Rattle.demands.specs.PracticeLaws.{of-practice, practice-written, practice-taken}
-use Rattle.demands.specs.HallsLaws.{halls-outcome, hall-is, used-is, within-limit}
+use Rattle.demands.specs.HallsLaws.{halls-outcome, hall-is, used-is, shown-past, within-limit}
 use Rattle.demands.specs.ComparisonLaws.{comparison-held-iff}
 use Rattle.demands.specs.CausesLaws.{shown-causes, planned, call-shown, why-front, why-causes, why-refused}
 
@@ -92,11 +92,12 @@ pub record DemandThree : Type 0 where
       faults (h .bytes) ≡ [] → planBytes ≤ length (h .buffers .listing) → placingWords ≤ length (h .buffers .placing) →
       Outcome p (x .number) (written x (o .listing)) × (x .number ≡ 0 → SamePlacing (sheetOf (h .bytes)) (written x (o .listing)) (o .placing))
   pub hall-is : (limit : ℕ) (used : List ℕ) (h : Hall) → HallIs limit used h
-  -- what the halls before one use in a slot is what their listings show there, and over all halls that is at most the
-  -- limit
+  -- what the halls before one use in a slot is what their listings show there: nothing past a hall's own last slot, and
+  -- over all halls at most the limit
   pub halls-used : (limit halls : ℕ) (a b c d : Hall) → let hs = four a b c d in let r = hallsAnswer limit halls hs in r .number ≡ 0 → (t : ℕ) → t < 96 →
       let shown : ℕ → ℕ = λ j. busyIn (hallIn hs j) (answerIn r j) (outcomeOf limit halls hs j .buffers .listing) t in
-      ((i : ℕ) → i ≤ halls → getD (usedBefore limit hs i) t 0 ≡ sum i shown) × (sum halls shown ≤ limit)
+      ((i : ℕ) → i ≤ halls → getD (usedBefore limit hs i) t 0 ≡ sum i shown)
+      × ((j : ℕ) → j < halls → sheetOf (hallIn hs j .bytes) .slots ≤ t → shown j ≡ 0) × (sum halls shown ≤ limit)
   -- Rations lent as records -----------------------------------------------------------------------
 
   pub plan-rations : (slots blowers wake : ℕ) (rations : List Ration) (listing : List ℕ) → let s = recordSheet slots blowers wake rations in let p = alone s in
@@ -185,7 +186,7 @@ demand-three =
       compare = comparison-held-iff;
       plan-halls = halls-outcome;
       hall-is = hall-is;
-      halls-used = λ limit halls a b c d z t k. (used-is limit halls a b c d z t k, within-limit limit halls a b c d z t k);
+      halls-used = λ limit halls a b c d z t k. (used-is limit halls a b c d z t k, shown-past limit halls a b c d z t, within-limit limit halls a b c d z t k);
       plan-rations = λ slots blowers wake rations listing formed l.
           let g = records-in-range (recordSheet slots blowers wake rations) formed in
           let e = room-plan listing l in

@@ -70,7 +70,8 @@ pub record DemandTwo : Type 0 where
   pub causes : (b out : List ℕ) → let p = alone (sheetOf b) in faults b ≡ [] → HasPlacing p → causesBytes ≤ length out →
       let r = planRefusal b (shortCauses out) in let a = causesAnswer r (endingsOf p) in
       (a .number ≡ 0) × CausesByMethod p (a .cut) (entriesIn (writtenCauses a (causesAfter r (endingsOf p) out)))
-  -- a hall that is there: by the method under the highs that the halls before it leave
+  -- a hall that is there: by the method under the highs that the halls before it leave, as `hall-is` says; what these
+  -- use is in `halls-used` of demand 3
   pub plan-halls : (limit halls : ℕ) (a b c d : Hall) → let hs = four a b c d in let r = hallsAnswer limit halls hs in
       r .number ≡ 0 → (i : ℕ) → i < halls → let h = hallIn hs i in let p = problemIn limit hs i in let x = answerIn r i in let o = outcomeOf limit halls hs i .buffers in
       faults (h .bytes) ≡ [] → HasPlacing p → planBytes ≤ length (h .buffers .listing) → placingWords ≤ length (h .buffers .placing) →

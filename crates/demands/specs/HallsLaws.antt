@@ -3,13 +3,13 @@
 use mathlib.Core.Path.{_≡_, refl, sym, ap, _∙_, subst}
 use mathlib.Core.Logic.{_⊎_, inl, inr}
 use mathlib.Core.Bool.{Bool, true, false, _||_, cond}
-use mathlib.Core.List.{List, [], _∷_, _++_}
+use mathlib.Core.List.{List, [], _∷_, _++_, append-assoc}
 use Prim.Native.Nat.{ℕ, zero, suc, _+_, _≤_, _<_}
 use native.Mathlib.Decide.{ℕ-discrete, decLt}
 use native.Mathlib.Omega.{arith}
 use lib.Dec.{eqb}
 use lib.ListN.{length, getD, take, replicate, length-append, List·getD-eq-default}
-use lib.Seq.{take-append-seam, getD-append-add}
+use lib.Seq.{take-append-seam, take-append-le, getD-append-add}
 use borrow.Author.Tests.{eqb-true}
 use Rattle.common.specs.Buffers.{padded}
 use Rattle.common.specs.FillLaws.{getD-zeros, getD-padded, padded-past}
@@ -27,7 +27,7 @@ use Rattle.planning.specs.ReadListing.{written, linesOf, feedPart, placingOn}
 use Rattle.planning.specs.AloneLaws.{left-whole, room-whole, may-whole}
 use Rattle.planning.specs.CallAnswers.{passed-planned, room-plan, room-placing, neither}
 use Rattle.halls.specs.Halls.{Hall, Buffers, HallOutcome, noHall, four, maxHalls, hallHigh, hallProblem, shortHall, hallRefusal, usedBy, hallOutcome, noneUsed, usedByAll, usedBefore, hallsFaults, hallsRefusal, nothing, notPlanned, outcomeOf, hallsAnswer}
-use Rattle.halls.specs.HallLaws.{length-hallHigh, hallHigh-at, hall-in-range, used-at}
+use Rattle.halls.specs.HallLaws.{length-hallHigh, hallHigh-at, hall-in-range, used-past, used-at}
 use Rattle.halls.specs.CallLaws.{numbered-halls, halls-in-range}
 use Rattle.halls.specs.Theorems.{hall-there, hall-none, hall-refused, used-before-next, used-before, earlier-halls, without-refused, one-hall}
 use Rattle.demands.specs.Answers.{FirstOf, NotZero}
@@ -201,6 +201,10 @@ module _ (limit halls : ℕ) (a b c d : Hall) where
         ∙ used-at limit (usedBefore limit hs i) (hallIn hs i) (u .long) t k
         ∙ omega (arith, used-is t k i (omega arith), shown-used t i l)
 
+    -- nothing in slots past a hall's own last one
+    pub shown-past : (t j : ℕ) → j < halls → sheetOf (hallIn hs j .bytes) .slots ≤ t → shown t j ≡ 0
+    shown-past t j l k = shown-used t j l ∙ used-past limit (usedBefore limit hs j) (hallIn hs j) t k
+
     pub within-limit : (t : ℕ) → t < maxSlots → sum halls (shown t) ≤ limit
     within-limit t k =
         let r = halls-in-range limit halls z in
@@ -223,18 +227,22 @@ pub halls-earlier : (limit halls : ℕ) (hs ks : List Hall) (i : ℕ) → i < ma
     × (outcomeOf limit halls hs i .buffers ≡ outcomeOf limit halls ks i .buffers)
 halls-earlier limit halls hs ks i l e = same-outcome limit halls hs i limit halls ks i l l (earlier-halls limit halls hs ks i e)
 
-module _ (limit n : ℕ) (e : hallsFaults limit n ≡ []) (f : hallsFaults limit (suc n) ≡ []) (xs : List Hall) (h : Hall) (ys : List Hall) (l : length xs ≤ n) where
-  -- hall h, after xs, is refused
+module _ (limit n : ℕ) (e : hallsFaults limit n ≡ []) (f : hallsFaults limit (suc n) ≡ []) (xs : List Hall) (h : Hall) (ys : List Hall) (z : Hall)
+    (three : length (xs ++ ys) ≡ 3) (l : length xs ≤ n) where
+  -- four halls, of which hall h comes after xs; and those without it, where another one stands last
   abbrev with-hall : List Hall
   with-hall = xs ++ (h ∷ ys)
+
+  abbrev without-hall : List Hall
+  without-hall = xs ++ (ys ++ (z ∷ []))
 
   number-of : hallRefusal limit (usedByAll limit noneUsed xs) h .number ≡ answerIn (hallsAnswer limit (suc n) with-hall) (length xs) .number
   unfolding hallOutcome listedAnswer
   number-of =
-      let z = first-halls limit (suc n) .accepted f .0 in
-      let r = halls-in-range limit (suc n) z in
+      let a = first-halls limit (suc n) .accepted f .0 in
+      let r = halls-in-range limit (suc n) a in
       sym (ap (λ a. a .number) (answer-in limit (suc n) with-hall (length xs) (omega (arith, r .3)))
-      ∙ ap (λ o. o .answer .number) (hall-there limit (suc n) z with-hall (length xs) (omega arith) (omega (arith, length-append xs (h ∷ ys))))
+      ∙ ap (λ o. o .answer .number) (hall-there limit (suc n) a with-hall (length xs) (omega arith) (omega (arith, length-append xs (h ∷ ys))))
       ∙ (λ i. hallOutcome limit (usedByAll limit noneUsed (take-append-seam xs (h ∷ ys) i)) (own i) .answer .number))
     where
       own : getD with-hall (length xs) noHall ≡ h
@@ -243,22 +251,29 @@ module _ (limit n : ℕ) (e : hallsFaults limit n ≡ []) (f : hallsFaults limit
           zero-more : length xs ≡ length xs + 0
           zero-more = omega arith
 
-  pub halls-without : NotZero (answerIn (hallsAnswer limit (suc n) with-hall) (length xs) .number) → (j : ℕ) → length xs ≤ j → j < n
-      → (answerIn (hallsAnswer limit (suc n) (xs ++ (h ∷ ys))) (suc j) ≡ answerIn (hallsAnswer limit n (xs ++ ys)) j)
-      × (outcomeOf limit (suc n) (xs ++ (h ∷ ys)) (suc j) .buffers ≡ outcomeOf limit n (xs ++ ys) j .buffers)
-  halls-without refused j k m =
-      let z = first-halls limit n .accepted e .0 in
-      let w = first-halls limit (suc n) .accepted f .0 in
-      let r = halls-in-range limit (suc n) w in
-      same-outcome limit (suc n) (xs ++ (h ∷ ys)) (suc j) limit n (xs ++ ys) j (omega (arith, r .3)) (omega (arith, r .3))
-      (without-refused limit n z w xs h ys l (λ q. refused (sym number-of ∙ q)) j k)
+  -- the hall that stands last is not looked at
+  last-apart : (j : ℕ) → suc j ≤ 3 → take (suc j) (xs ++ ys) ≡ take (suc j) without-hall
+  last-apart j m =
+      sym (take-append-le (suc j) (xs ++ ys) (z ∷ []) (omega (arith, three))) ∙ ap (take (suc j)) (append-assoc xs ys (z ∷ []))
 
--- one hall that the limit does not bind
-pub hall-alone : (limit : ℕ) → hallsFaults limit 1 ≡ [] → (h : Hall) (hs : List Hall) → sheetOf (h .bytes) .blowers ≤ limit
+  pub halls-without : NotZero (answerIn (hallsAnswer limit (suc n) with-hall) (length xs) .number) → (j : ℕ) → length xs ≤ j → j < n
+      → (answerIn (hallsAnswer limit (suc n) with-hall) (suc j) ≡ answerIn (hallsAnswer limit n without-hall) j)
+      × (outcomeOf limit (suc n) with-hall (suc j) .buffers ≡ outcomeOf limit n without-hall j .buffers)
+  halls-without refused j k m =
+      let a = first-halls limit n .accepted e .0 in
+      let b = first-halls limit (suc n) .accepted f .0 in
+      let r = halls-in-range limit (suc n) b in
+      same-outcome limit (suc n) with-hall (suc j) limit n without-hall j (omega (arith, r .3)) (omega (arith, r .3))
+      (without-refused limit n a b xs h ys l (λ q. refused (sym number-of ∙ q)) j k
+      ∙ earlier-halls limit n (xs ++ ys) without-hall j (last-apart j (omega (arith, r .3))))
+
+-- the first hall, where the limit does not bind it
+pub hall-alone : (limit halls : ℕ) → hallsFaults limit halls ≡ [] → (h : Hall) (hs : List Hall) → sheetOf (h .bytes) .blowers ≤ limit
     → let p = alone (sheetOf (h .bytes)) in let r = planRefusal (h .bytes) (shortPlan (h .buffers .listing) || shortPlacing (h .buffers .placing)) in
-    (answerIn (hallsAnswer limit 1 (h ∷ hs)) 0 ≡ listedAnswer r (listingOf p))
-    × (outcomeOf limit 1 (h ∷ hs) 0 .buffers .listing ≡ listingAfter r (listingOf p) (h .buffers .listing))
-    × (outcomeOf limit 1 (h ∷ hs) 0 .buffers .placing ≡ placingAfter r (wordsFor p) (h .buffers .placing))
-hall-alone limit f h hs l =
-    let e = one-hall limit h l (first-halls limit 1 .accepted f .0) hs in
-    (answer-in limit 1 (h ∷ hs) 0 (omega arith) ∙ ap (λ o. o .answer) e, ap (λ o. o .buffers .listing) e, ap (λ o. o .buffers .placing) e)
+    (answerIn (hallsAnswer limit halls (h ∷ hs)) 0 ≡ listedAnswer r (listingOf p))
+    × (outcomeOf limit halls (h ∷ hs) 0 .buffers .listing ≡ listingAfter r (listingOf p) (h .buffers .listing))
+    × (outcomeOf limit halls (h ∷ hs) 0 .buffers .placing ≡ placingAfter r (wordsFor p) (h .buffers .placing))
+hall-alone limit halls f h hs l =
+    let z = first-halls limit halls .accepted f .0 in
+    let e = one-hall limit h l halls z (halls-in-range limit halls z .2) hs in
+    (answer-in limit halls (h ∷ hs) 0 (omega arith) ∙ ap (λ o. o .answer) e, ap (λ o. o .buffers .listing) e, ap (λ o. o .buffers .placing) e)

@@ -71,10 +71,10 @@ module _ (limit : ℕ) (used : List ℕ) (h : Hall) where
     in-range : ProblemInRange p
     in-range = hall-in-range (bytes-checked (h .bytes) .values (hall-planned z .0))
 
-    pub hall-slots : sheetOf (h .bytes) .slots ≤ maxSlots
+    hall-slots : sheetOf (h .bytes) .slots ≤ maxSlots
     hall-slots = bytes-checked (h .bytes) .values (hall-planned z .0) .head .slots .le
 
-    pub hall-counts : length (countsOf p) ≡ sheetOf (h .bytes) .slots
+    hall-counts : length (countsOf p) ≡ sheetOf (h .bytes) .slots
     unfolding hallProblem
     hall-counts = length-countsOf p in-range (hall-planned z .1)
 
@@ -115,6 +115,16 @@ module _ (limit : ℕ) (used : List ℕ) (h : Hall) where
       go : (x : Bool) → eqb (hallRefusal limit used h .number) 0 ≡ x → getD (cond x (padded maxSlots counts) (replicate maxSlots 0)) t 0 ≤ limit - getD used t 0
       go true q = planned (eqb-true (hallRefusal limit used h .number) 0 q) (decLt t (sheetOf (h .bytes) .slots))
       go false q = omega (arith, getD-zeros maxSlots t)
+
+  -- and nothing past its own last slot
+  pub used-past : (t : ℕ) → sheetOf (h .bytes) .slots ≤ t → getD (usedBy limit used h) t 0 ≡ 0
+  unfolding usedBy busyAfter
+  used-past t l = go (eqb (hallRefusal limit used h .number) 0) refl
+    where
+      go : (x : Bool) → eqb (hallRefusal limit used h .number) 0 ≡ x
+          → getD (cond x (padded maxSlots (countsOf (hallProblem limit used h))) (replicate maxSlots 0)) t 0 ≡ 0
+      go true q = padded-past maxSlots (countsOf (hallProblem limit used h)) t (omega (arith, hall-counts (eqb-true (hallRefusal limit used h .number) 0 q)))
+      go false q = getD-zeros maxSlots t
 
   -- What it and the halls before it use ------------------------------------------------
 

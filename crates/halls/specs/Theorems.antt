@@ -85,7 +85,7 @@ used-all limit (h ∷ hs) used u = used-all limit hs (usedAfter limit used h) (u
 pub used-before : (limit : ℕ) → limit ≤ maxLimit → (hs : List Hall) (i : ℕ) → Used limit (usedBefore limit hs i)
 used-before limit l hs i = used-all limit (take i hs) noneUsed (none-used limit l)
 
--- The sum over halls stays within the limit in every slot.
+-- In each slot, what all halls use together is at most the limit.
 pub halls-within-limit : (limit : ℕ) → limit ≤ maxLimit → (hs : List Hall) (t : ℕ) → t < maxSlots → getD (usedByAll limit noneUsed hs) t 0 ≤ limit
 halls-within-limit limit l hs = used-all limit hs noneUsed (none-used limit l) .within
 
@@ -104,8 +104,7 @@ first-earlier limit used (suc n) (h ∷ hs) (k ∷ ks) (suc i) z e =
     first-earlier limit (usedAfter limit used h) n hs ks i z (ap (drop 1) e)
     ∙ ap (λ x. getD (firstOf limit (usedAfter limit used x) n ks) i z) (ap (firstOr noHall) e)
 
--- What is answered for a hall, and left in its buffers, depends on it and the halls before it alone: a later hall,
--- changed in any way, leaves earlier ones as they were.
+-- What is answered for a hall, and left in its buffers, depends on it and the halls before it alone.
 pub earlier-halls : (limit halls : ℕ) (hs ks : List Hall) (i : ℕ) → take (suc i) hs ≡ take (suc i) ks → outcomeOf limit halls hs i ≡ outcomeOf limit halls ks i
 unfolding outcomeOf outcomes hallsInOrder
 earlier-halls limit halls hs ks i e = go (eqb (hallsRefusal limit halls .number) 0)
@@ -148,10 +147,11 @@ module _ (limit : ℕ) (h : Hall) (enough : sheetOf (h .bytes) .blowers ≤ limi
       let s = sheetOf (h .bytes) in
       ap (wholeDay s) (hallHigh-full limit noneUsed s (λ t l. omega (arith, getD-zeros maxSlots t)))
 
-  -- It is planned as it is alone, with both buffers: number, line, length and every byte and word.
-  pub one-hall : hallsRefusal limit 1 .number ≡ 0 → (hs : List Hall)
+  -- It is planned as it is alone, with both buffers: number, line, length and every byte and word. However many halls
+  -- there are, that is so of the first one.
+  pub one-hall : (halls : ℕ) → hallsRefusal limit halls .number ≡ 0 → 1 ≤ halls → (hs : List Hall)
       → let p = alone (sheetOf (h .bytes)) in let r = planRefusal (h .bytes) (shortPlan (h .buffers .listing) || shortPlacing (h .buffers .placing)) in
-      outcomeOf limit 1 (h ∷ hs) 0
+      outcomeOf limit halls (h ∷ hs) 0
       ≡ record {
         answer = listedAnswer r (listingOf p);
         buffers =
@@ -161,8 +161,8 @@ module _ (limit : ℕ) (h : Hall) (enough : sheetOf (h .bytes) .blowers ≤ limi
             };
       }
   unfolding hallOutcome hallRefusal shortHall planRefusal usedByAll
-  one-hall z hs =
-      hall-there limit 1 z (h ∷ hs) 0 (omega arith) (omega arith)
+  one-hall halls z l hs =
+      hall-there limit halls z (h ∷ hs) 0 (omega arith) (omega arith)
       ∙ (λ i.
       let p = first-alone i in
       let r = firstRefusal (planChecks (faults (h .bytes)) (shortPlan (h .buffers .listing) || shortPlacing (h .buffers .placing)) p) in

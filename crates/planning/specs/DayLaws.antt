@@ -4,7 +4,7 @@ use mathlib.Core.Bool.{Bool, true, false, cond}
 use mathlib.Core.List.{List, map}
 use Prim.Native.Nat.{ℕ, _*_, _≤_, _<_}
 use native.Mathlib.Omega.{arith}
-use lib.ListN.{length, getD, take, replicate, length-replicate, getD-replicate}
+use lib.ListN.{length, getD, take, replicate, length-replicate}
 use lib.Pow.{pow-mono}
 use lib.Seq.{ext-getD, getD-take, length-take-le}
 use borrow.Author.Tests.{not-true, not-false}
@@ -29,6 +29,7 @@ use Rattle.schedules.specs.DemandLaws.{length-demandsOf}
 use Rattle.placing.specs.ReadLaws.{SheetRead, sheet-read}
 use Rattle.feedings.specs.CellChoice.{ScheduleWords}
 use Rattle.feedings.specs.ScheduleWordLaws.{words-load}
+use Rattle.method.specs.Theorems.{day-high}
 use Rattle.stretches.specs.declared.Day.{Day}
 use Rattle.stretches.specs.Days.{DayPlanned, HighsOf, DayUnder}
 use Rattle.plan_lines.specs.Sizes.{planBytes, placingWords}
@@ -242,7 +243,7 @@ unfolding fullHigh
 full-read h z = let a = sheet-read h z in ap₂ replicate (a .slots) (a .blowers)
 
 pub highs-full : {slots m : ℕ} {H : List ℕ} → H ≡ padded maxSlots (replicate slots m) → HighsOf slots m (replicate slots m) H
-highs-full {slots} {m} e = record { each = length-replicate slots m; below = λ t l. omega (arith, getD-replicate slots t m 0 l); bytes = e }
+highs-full {slots} {m} e = record { each = length-replicate slots m; below = day-high slots m; bytes = e }
 
 pub highs-alone : {own : List Refusal} {s : Sheet} {r : Reading} → ReadFrom own s r → r .number ≡ 0 → {H : List ℕ} → H ≡ padded maxSlots (replicate (r .slots) (r .blowers))
     → HighsOf (r .slots) (r .blowers) (fullHigh s) H

@@ -184,8 +184,11 @@ pub fn plan_under(
         line: 0,
         length,
     };
-    let counts = day.counts;
-    PlannedDay { planned, counts }
+    let busy = day.counts;
+    PlannedDay {
+        planned,
+        counts: busy,
+    }
 }
 
 // With both buffers lent.
