@@ -2,17 +2,11 @@
 use mathlib.Core.Path.{_≡_}
 use mathlib.Core.Bool.{Bool, cond}
 use mathlib.Core.List.{List}
-use Prim.Native.Nat.{ℕ, _+_, _≤_, _<_}
+use Prim.Native.Nat.{ℕ, _≤_, _<_}
 use lib.ListN.{length, getD}
 use Rattle.checks.specs.Limits.{maxSlots}
 use Rattle.halls.specs.declared.HallPlanned.{HallPlanned}
 use Rattle.halls.specs.Halls.{Hall, HallOutcome, maxLimit, usedAfter, hallOutcome, notPlanned}
-
--- the sum in each slot is one byte
-pub record CanAdd (used counts : List ℕ) : Type 0 where
-  pub used-long : length used ≡ maxSlots
-  pub counts-long : length counts ≡ maxSlots
-  pub fits : (t : ℕ) → t < maxSlots → getD used t 0 + getD counts t 0 ≤ 255
 
 -- what halls use under a limit of the call
 pub record Used (limit : ℕ) (used : List ℕ) : Type 0 where

@@ -9,24 +9,24 @@ use lib.Dec.{eqb}
 use lib.ListN.{length, getD, replicate, length-replicate}
 use lib.Seq.{ext-getD}
 use borrow.Author.Tests.{ne-eqb, eqb-true}
-use Rattle.common.specs.Lists.{zipWith}
 use Rattle.common.specs.Buffers.{padded}
 use Rattle.common.specs.BufferLaws.{length-padded}
-use Rattle.common.specs.FillLaws.{FilledTo, filled-end, getD-zeros, getD-padded, padded-past}
+use Rattle.common.specs.FillLaws.{getD-zeros, getD-padded, padded-past}
 use Rattle.checks.specs.Limits.{maxSlots}
 use Rattle.checks.specs.Sheet.{Sheet, sheetOf}
 use Rattle.checks.specs.Checks.{faults}
 use Rattle.checks.specs.RangeLaws.{ValuesInRange}
 use Rattle.sheet.specs.OwnCheckLaws.{bytes-checked}
 use Rattle.schedules.specs.Demands.{fullHigh}
-use Rattle.schedules.specs.Tabulate.{tab, length-tab, getD-tab, length-zipWith, getD-zipWith}
+use Rattle.schedules.specs.Tabulate.{length-tab, getD-tab, length-zipWith, getD-zipWith}
 use Rattle.planning.specs.Problem.{Problem, ProblemInRange, canBePlanned, countsOf}
 use Rattle.planning.specs.Planning.{busyAfter}
 use Rattle.planning.specs.ProblemLaws.{feedings-may, length-countsOf}
 use Rattle.planning.specs.AloneLaws.{whole-in-range, length-fullHigh, fullHigh-at}
 use Rattle.planning.specs.CallAnswers.{passed-planned}
+use Rattle.hall_uses.specs.Uses.{CanAdd}
 use Rattle.halls.specs.Halls.{Hall, maxLimit, hallHigh, hallProblem, shortHall, hallRefusal, usedBy, usedAfter, noneUsed}
-use Rattle.halls.specs.Contracts.{CanAdd, Used}
+use Rattle.halls.specs.Contracts.{Used}
 
 -- Its highs, and the problem ---------------------------------------------------------
 
@@ -166,18 +166,3 @@ length-none = length-replicate {A = ℕ} maxSlots 0
 
 pub none-used : (limit : ℕ) → limit ≤ maxLimit → Used limit noneUsed
 none-used limit l = record { most = l; long = length-none; within = λ t k. omega (arith, getD-zeros maxSlots t) }
-
--- Filling them in ------------------------------------------------------------------------
-
--- the highs of the hall's slots, 0 past them
-pub highs-end : (f : ℕ → ℕ) (slots t : ℕ) → slots ≤ maxSlots → t ≡ slots → (xs : List ℕ) → FilledTo maxSlots f t xs → xs ≡ padded maxSlots (tab slots f)
-highs-end f slots t l e xs h =
-    filled-end maxSlots (tab slots f) f t (e ∙ sym (length-tab slots f)) (omega (arith, length-tab slots f))
-    (λ k m. sym (getD-tab slots f 0 k (rw (length-tab slots f) at m))) xs h
-
--- the sums of two lists of 96 numbers
-pub sums-end : (used counts : List ℕ) → length used ≡ maxSlots → length counts ≡ maxSlots → (t : ℕ) → t ≡ maxSlots → (xs : List ℕ)
-    → FilledTo maxSlots (λ k. getD used k 0 + getD counts k 0) t xs → xs ≡ zipWith _+_ used counts
-sums-end used counts l m t e xs h =
-    ext-getD 0 xs (zipWith _+_ used counts) (h .long ∙ sym (length-zipWith _+_ used counts l m))
-    (λ k p. h .filled k (omega (arith, h .long)) ∙ sym (getD-zipWith _+_ used counts 0 0 0 k (omega (arith, h .long)) (omega (arith, h .long))))

@@ -2,7 +2,6 @@
 // an equation of their own; what is used so far goes from one to the next.
 use crate::HallPlanned;
 use crate::HallsPlanned;
-use crate::uses;
 use checks::Refusal;
 use checks::refusals::BAD_HALLS;
 use planning::Planned;
@@ -26,13 +25,13 @@ fn plan_hall(
     ensures { λ r. ⌜ HallDone limit (now (used .entry)) (lent (now (b .entry)) (now (listing .entry)) (now (placing .entry))) r (now (listing .exit)) (now (placing .exit)) ⌝ }
 {
     let reading = sheet::read(b);
-    let highs = uses::hall_highs(limit, used, reading.slots as usize, reading.blowers as u8);
+    let highs = hall_uses::hall_highs(limit, used, reading.slots as usize, reading.blowers as u8);
     let day = planning::plan_under(reading, &highs, listing, placing);
     let planned = day.planned;
     let counts = day.counts;
     HallPlanned {
         planned,
-        used: uses::add_used(used, &counts),
+        used: hall_uses::add_used(used, &counts),
     }
 }
 

@@ -5,7 +5,6 @@
 // blowers and the limit less what they use. What the call answers, and what it leaves in each buffer, is stated in
 // specs/Halls.antt; what holds of the halls together is in specs/Theorems.antt.
 mod calls;
-mod uses;
 
 pub use calls::plan_halls;
 use planning::Planned;

@@ -1,7 +1,7 @@
--- `halls::uses::hall_high` meets its contract. Assumes nothing.
+-- `hall_uses::hall_high` meets its contract. Assumes nothing.
 use native.Mathlib.Omega.{arith}
-use Rattle.halls.proofs.uses.hall_high.Statement.{statement}
-use Rattle.halls.proofs.uses.hall_high.Tie as tie
+use Rattle.hall_uses.proofs.hall_high.Statement.{statement}
+use Rattle.hall_uses.proofs.hall_high.Tie as tie
 
 returns : tie.Need-returns
 returns c = omega arith

@@ -1,13 +1,13 @@
--- `halls::uses::add_used` meets its contract. Assumes nothing.
+-- `hall_uses::add_used` meets its contract. Assumes nothing.
 use mathlib.Core.Path.{refl}
 use Prim.Native.Nat.{_+_, _≤_, _-_}
 use lib.ListN.{getD}
 use Rattle.checks.specs.Limits.{maxSlots}
 use Rattle.common.specs.FillLaws.{FilledTo, filled-begin, filled-next}
-use Rattle.halls.specs.HallLaws.{sums-end}
+use Rattle.hall_uses.specs.UseLaws.{sums-end}
 use native.Mathlib.Omega.{arith}
-use Rattle.halls.proofs.uses.add_used.Statement.{statement}
-use Rattle.halls.proofs.uses.add_used.Tie as tie
+use Rattle.hall_uses.proofs.add_used.Statement.{statement}
+use Rattle.hall_uses.proofs.add_used.Tie as tie
 
 abbrev Inv-loop : tie.InvT-loop
 Inv-loop used counts sums₀ t₀ sums t = (t ≤ maxSlots) × FilledTo maxSlots (λ k. getD used k 0 + getD counts k 0) t sums

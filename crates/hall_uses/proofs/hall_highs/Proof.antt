@@ -1,13 +1,13 @@
--- `halls::uses::hall_highs` meets its contract. Assumes nothing.
+-- `hall_uses::hall_highs` meets its contract. Assumes nothing.
 use Prim.Native.Nat.{_≤_, _-_, min}
 use lib.ListN.{getD}
 use Rattle.checks.specs.Limits.{maxSlots}
 use Rattle.common.specs.FillLaws.{FilledTo, filled-begin, filled-next}
-use Rattle.halls.specs.HallLaws.{highs-end}
+use Rattle.hall_uses.specs.UseLaws.{highs-end}
 use native.Mathlib.Omega.{arith}
 use borrow.Author.Needs.{needs}
-use Rattle.halls.proofs.uses.hall_highs.Statement.{statement}
-use Rattle.halls.proofs.uses.hall_highs.Tie as tie
+use Rattle.hall_uses.proofs.hall_highs.Statement.{statement}
+use Rattle.hall_uses.proofs.hall_highs.Tie as tie
 
 abbrev Inv-loop : tie.InvT-loop
 Inv-loop limit used slots blowers highs₀ t₀ highs t = (t ≤ slots) × (slots ≤ maxSlots) × FilledTo maxSlots (λ k. min blowers (limit - getD used k 0)) t highs

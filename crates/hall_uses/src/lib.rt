@@ -1,4 +1,5 @@
-// The blowers that halls use in each slot, and what they leave to the next one.
+// The blowers that halls use in each slot, and what the limit leaves to the next hall. Beneath `halls`, where the whole
+// call is proved: numbers alone are asked for here.
 ghost use mathlib.Core.Path.{_≡_};
 ghost use Prim.Native.Nat.{_+_, _-_, _≤_, min};
 ghost use lib.ListN.{length, getD};
@@ -6,7 +7,7 @@ ghost use Rattle.common.specs.Buffers.{padded};
 ghost use Rattle.common.specs.Lists.{zipWith};
 ghost use Rattle.checks.specs.Limits.{maxSlots};
 ghost use Rattle.schedules.specs.Tabulate.{tab};
-ghost use Rattle.halls.specs.Contracts.{CanAdd};
+ghost use Rattle.hall_uses.specs.Uses.{CanAdd};
 
 // A hall's high in a slot: the smaller of its own blowers and the limit less what earlier halls use, which is none
 // where they use as many as the limit.
