@@ -128,7 +128,7 @@ pub record DemandOne : Type 0 where
       → NotZero (answerIn (hallsAnswer limit (suc n) (xs ++ (h ∷ ys))) (length xs) .number) → (j : ℕ) → length xs ≤ j → j < n
       → (answerIn (hallsAnswer limit (suc n) (xs ++ (h ∷ ys))) (suc j) ≡ answerIn (hallsAnswer limit n (xs ++ (ys ++ (z ∷ [])))) j)
       × (outcomeOf limit (suc n) (xs ++ (h ∷ ys)) (suc j) .buffers ≡ outcomeOf limit n (xs ++ (ys ++ (z ∷ []))) j .buffers)
-  -- the first hall, or the only one, has the answer and the buffers of `plan-both` under a limit of at least its blowers
+  -- the first hall, or the only one, has the answer and buffers of `plan-both` under a limit of at least its blowers
   pub hall-alone : (limit halls : ℕ) → hallsFaults limit halls ≡ [] → (h : Hall) (hs : List Hall) → sheetOf (h .bytes) .blowers ≤ limit
       → let p = alone (sheetOf (h .bytes)) in let r = planRefusal (h .bytes) (shortPlan (h .buffers .listing) || shortPlacing (h .buffers .placing)) in
       (answerIn (hallsAnswer limit halls (h ∷ hs)) 0 ≡ listedAnswer r (listingOf p))
