@@ -13,7 +13,8 @@
  *
  * Numbers: 0 is accepted. Any other is the refusal below, the first that applies in the order of the list, in which
  * 7, 8, 9 and 13 go line by line; `line` is the line of the sheet that it names, from 1; 0 where it names none.
- * Every number but 0 and 12 changes nothing that is lent, and every further field of the answer is then 0. */
+ * Every number but 0 and 12 changes nothing that is lent, of a hall's own number nothing that the hall lends, and every
+ * further field of the answer is then 0. */
 #ifndef KIWIMOUND_H
 #define KIWIMOUND_H
 

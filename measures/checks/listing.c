@@ -18,7 +18,9 @@ void read_line(const uint8_t *line, uint32_t numbers[4]) {
 }
 
 /* A line of a listing after its opening word. */
-static void line_at(const uint8_t *listing, size_t line, uint32_t numbers[4]) { read_line(listing + WORD + LINE * line, numbers); }
+static void line_at(const uint8_t *listing, size_t line, uint32_t numbers[4]) {
+    read_line(listing + WORD + LINE * line, numbers);
+}
 
 /* The feed lines: each meal has its volume in its window, its parts counted from 1; each slot has no more than its high,
  * and a tank once at most. Gives the rations and the count of each slot. */

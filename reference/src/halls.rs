@@ -1,5 +1,5 @@
-//! Halls behind one mains fuse (request 108): up to four halls, each with a sheet and
-//! buffers of its own, share a limit on the busy blowers of a slot.
+//! Halls behind one mains fuse (request 108): up to four sheets, one after another, each under
+//! what the earlier ones leave of a limit on the busy blowers of a slot.
 
 use crate::listing::{held_text_under, placing_words, plan_text, PLACING_WORDS, PLAN_BUFFER};
 use crate::method::plan_under;

@@ -349,7 +349,7 @@ fn generated(seed: u32, small: u32, middle: u32) -> Vec<Group> {
         .collect()
 }
 
-/// The sum over halls stays within the limit in every slot, and each hall that is planned
+/// No slot has more busy blowers in all halls than the limit, and each hall that is planned
 /// or held is so under its blowers and what the placing words of those before it leave.
 #[test]
 fn what_is_used_is_what_the_words_show() {

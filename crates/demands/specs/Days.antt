@@ -338,7 +338,8 @@ practice-days-as-stated = refl
 
 -- Halls (request 108) ----------------------------------------------------------------------
 
--- one ration of two feedings in three slots, for two blowers; the day of one slot; a feeding in the second slot alone
+-- one ration of two feedings in three slots, for two blowers; the day of one slot; a feeding in the second slot alone;
+-- two feedings in one slot, for one blower
 abbrev twoOfThree : Sheet
 twoOfThree = "    3    2    1    1" ∷ "    1    1    3    2" ∷ []
 
@@ -348,11 +349,15 @@ firstSlot = "    1    1    1    1" ∷ "    1    1    1    1" ∷ []
 abbrev secondSlot : Sheet
 secondSlot = "    2    1    1    1" ∷ "    7    2    2    1" ∷ []
 
+abbrev twoInOne : Sheet
+twoInOne = "    1    1    1    2" ∷ "    1    1    1    1" ∷ "    2    1    1    1" ∷ []
+
 -- Blower 2 of the first sheet is idle all day, and blower 1 as long as two slots are left: it is busy in the slots 2
 -- and 3. Under limit 1 the same sheet in a second hall has the room 1, 0, 0: at least one feeding is forced into the
 -- slots 2 and 3, in which it has none. It is held and uses nothing, so that a third hall has slot 1. Under limit 2 it
--- is planned as the first one is. A refused sheet uses nothing; a hall uses nothing past its only slot; limits and
--- numbers of halls out of range.
+-- is planned as the first one is. A refused sheet uses nothing; a hall uses nothing past its only slot, and of four
+-- halls under limit 2 the third finds its only slot taken. Under the greatest limit a hall still has its own blower
+-- alone, too few for two feedings in a slot. Then limits and numbers of halls out of range.
 abbrev pub hallDays : List Day
 hallDays =
     day (hallsFor 1 (twoOfThree ∷ twoOfThree ∷ firstSlot ∷ [])) (numbers (0 ∷ 0 ∷ 0 ∷ 0 ∷ 12 ∷ 0 ∷ 0 ∷ 0 ∷ []))
@@ -364,6 +369,8 @@ hallDays =
     ∷ day (hallsFor 1 (("   97    1    0    0" ∷ []) ∷ twoOfThree ∷ [])) (numbers (0 ∷ 0 ∷ 3 ∷ 1 ∷ 0 ∷ 0 ∷ []))
     ∷ day (hallCountsFor 1 (("   97    1    0    0" ∷ []) ∷ twoOfThree ∷ []) 1 3) (numbers (0 ∷ 1 ∷ 1 ∷ []))
     ∷ day (hallsFor 1 (firstSlot ∷ secondSlot ∷ firstSlot ∷ [])) (numbers (0 ∷ 0 ∷ 0 ∷ 0 ∷ 0 ∷ 0 ∷ 12 ∷ 0 ∷ []))
+    ∷ day (hallsFor 2 (firstSlot ∷ firstSlot ∷ firstSlot ∷ secondSlot ∷ [])) (numbers (0 ∷ 0 ∷ 0 ∷ 0 ∷ 0 ∷ 0 ∷ 12 ∷ 0 ∷ 0 ∷ 0 ∷ []))
+    ∷ day (hallsFor 32 (twoInOne ∷ [])) (numbers (0 ∷ 0 ∷ 12 ∷ 0 ∷ []))
     ∷ day (hallsFor 33 (firstSlot ∷ [])) (numbers (14 ∷ 0 ∷ 0 ∷ 0 ∷ []))
     ∷ day (hallsFor 0 (firstSlot ∷ [])) (numbers (14 ∷ 0 ∷ 0 ∷ 0 ∷ []))
     ∷ day (hallsFor 32 (firstSlot ∷ firstSlot ∷ [])) (numbers (0 ∷ 0 ∷ 0 ∷ 0 ∷ 0 ∷ 0 ∷ []))

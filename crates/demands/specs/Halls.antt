@@ -16,8 +16,9 @@ use Rattle.planning.specs.declared.Planned.{Planned}
 use Rattle.planning.specs.Problem.{Problem, left, room, MayPlace}
 use Rattle.planning.specs.Planning.{planChecks}
 use Rattle.planning.specs.ReadListing.{written, linesOf, feedPart, placingOn}
+use Rattle.hall_uses.specs.Uses.{hallHigh}
 use Rattle.halls.specs.declared.HallsPlanned.{HallsPlanned}
-use Rattle.halls.specs.Halls.{Hall, Buffers, noHall, hallHigh, hallProblem, shortHall, usedBefore, nothing}
+use Rattle.halls.specs.Halls.{Hall, Buffers, noHall, hallProblem, shortHall, usedBefore, nothing}
 use Rattle.demands.specs.Answers.{FirstOf, PlanBuffer, PlacingBuffer}
 use Rattle.demands.specs.Outcome.{loadOf}
 
@@ -37,11 +38,11 @@ problemIn limit hs i = hallProblem limit (usedBefore limit hs i) (hallIn hs i)
 pub record HallIs (limit : ℕ) (used : List ℕ) (h : Hall) : Type 0 where
   pub sheet-is : hallProblem limit used h .sheet ≡ sheetOf (h .bytes)
   pub left-is : left (hallProblem limit used h) ≡ demandsOf (sheetOf (h .bytes))
-  pub room-is : room (hallProblem limit used h) ≡ hallHigh limit used (sheetOf (h .bytes))
+  pub room-is : let s = sheetOf (h .bytes) in room (hallProblem limit used h) ≡ hallHigh limit used (s .slots) (s .blowers)
   pub room-at : (t : ℕ) → t < sheetOf (h .bytes) .slots
       → getD (room (hallProblem limit used h)) t 0 ≡ min (sheetOf (h .bytes) .blowers) (limit - getD used t 0)
   pub may-is : (q : Schedule) → let s = sheetOf (h .bytes) in
-      MayPlace (hallProblem limit used h) q ↔ Sound (s .slots) (demandsOf s) (noLow s) (hallHigh limit used s) q
+      MayPlace (hallProblem limit used h) q ↔ Sound (s .slots) (demandsOf s) (noLow s) (hallHigh limit used (s .slots) (s .blowers)) q
 
 -- the busy blowers that the listing of a hall shows in slot t, from 0: the feedings on its lines where number 0 was
 -- given, and none on any other number

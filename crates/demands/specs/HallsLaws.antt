@@ -26,8 +26,10 @@ use Rattle.planning.specs.Planning.{planRefusal, shortPlan, shortPlacing, liste
 use Rattle.planning.specs.ReadListing.{written, linesOf, feedPart, placingOn}
 use Rattle.planning.specs.AloneLaws.{left-whole, room-whole, may-whole}
 use Rattle.planning.specs.CallAnswers.{passed-planned, room-plan, room-placing, neither}
-use Rattle.halls.specs.Halls.{Hall, Buffers, HallOutcome, noHall, four, maxHalls, hallHigh, hallProblem, shortHall, hallRefusal, usedBy, hallOutcome, noneUsed, usedByAll, usedBefore, hallsFaults, hallsRefusal, nothing, notPlanned, outcomeOf, hallsAnswer}
-use Rattle.halls.specs.HallLaws.{length-hallHigh, hallHigh-at, hall-in-range, used-past, used-at}
+use Rattle.halls.specs.Halls.{Hall, Buffers, HallOutcome, noHall, four, maxHalls, hallProblem, shortHall, hallRefusal, usedBy, hallOutcome, noneUsed, usedByAll, usedBefore, hallsFaults, hallsRefusal, nothing, notPlanned, outcomeOf, hallsAnswer}
+use Rattle.hall_uses.specs.Uses.{hallHigh}
+use Rattle.hall_uses.specs.UseLaws.{length-hallHigh, hallHigh-at}
+use Rattle.halls.specs.HallLaws.{hall-in-range, used-past, used-at}
 use Rattle.halls.specs.CallLaws.{numbered-halls, halls-in-range}
 use Rattle.halls.specs.Theorems.{hall-there, hall-none, hall-refused, used-before-next, used-before, earlier-halls, without-refused, one-hall}
 use Rattle.demands.specs.Answers.{FirstOf, NotZero}
@@ -59,13 +61,14 @@ module _ (limit : ℕ) (used : List ℕ) (h : Hall) where
   pub hall-is : HallIs limit used h
   unfolding hallProblem
   hall-is =
-      let long = length-hallHigh limit used s in
+      let high = hallHigh limit used (s .slots) (s .blowers) in
+      let long = length-hallHigh limit used (s .slots) (s .blowers) in
       record {
         sheet-is = refl;
-        left-is = left-whole s (hallHigh limit used s) long;
-        room-is = room-whole s (hallHigh limit used s) long;
-        room-at = λ t l. ap (λ x. getD x t 0) (room-whole s (hallHigh limit used s) long) ∙ hallHigh-at limit used s t l;
-        may-is = may-whole s (hallHigh limit used s) long;
+        left-is = left-whole s high long;
+        room-is = room-whole s high long;
+        room-at = λ t l. ap (λ x. getD x t 0) (room-whole s high long) ∙ hallHigh-at limit used (s .slots) (s .blowers) t l;
+        may-is = may-whole s high long;
       }
 
   hall-answered : HallAnswer p h (done .answer) (done .buffers)
@@ -125,7 +128,7 @@ module _ (limit : ℕ) (used : List ℕ) (h : Hall) where
 -- Halls of a call ---------------------------------------------------------------------------------
 
 -- the answers are those of the outcomes
-pub answer-in : (limit halls : ℕ) (hs : List Hall) (i : ℕ) → i < maxHalls → answerIn (hallsAnswer limit halls hs) i ≡ outcomeOf limit halls hs i .answer
+answer-in : (limit halls : ℕ) (hs : List Hall) (i : ℕ) → i < maxHalls → answerIn (hallsAnswer limit halls hs) i ≡ outcomeOf limit halls hs i .answer
 unfolding hallsAnswer
 answer-in limit halls hs zero l = refl
 answer-in limit halls hs (suc zero) l = refl

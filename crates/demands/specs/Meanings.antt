@@ -23,7 +23,8 @@ use Rattle.cause_lines.specs.Entries.{entryLines, entryText, entriesText, fitti
 use Rattle.causes.specs.CauseCalls.{endingsOf}
 use Rattle.checks.specs.Sheet.{writeJob, writeSheet}
 use Rattle.practice.specs.Practice.{nextSeed, seedAfter, draw, drawnJob, practiceJob, practiceSheet, faultySeed, seedIn}
-use Rattle.halls.specs.Halls.{hallHigh, hallProblem, shortHall, hallRefusal, usedBy, usedAfter, hallOutcome, hallsInOrder, usedByAll, hallsFaults, hallsRefusal, outcomes, outcomeOf, hallsAnswer}
+use Rattle.hall_uses.specs.Uses.{hallHigh}
+use Rattle.halls.specs.Halls.{hallProblem, shortHall, hallRefusal, usedBy, usedAfter, hallOutcome, hallsInOrder, usedByAll, hallsFaults, hallsRefusal, outcomes, outcomeOf, hallsAnswer}
 use Rattle.program.specs.Program.{output, explanation, seedOutput}
 use Rattle.demands.specs.Halls.{busyIn}
 

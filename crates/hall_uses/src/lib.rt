@@ -1,13 +1,12 @@
-// The blowers that halls use in each slot, and what the limit leaves to the next hall. Beneath `halls`, where the whole
-// call is proved: numbers alone are asked for here.
+// The blowers that halls use in each slot, and what the limit leaves to the next hall. What is asked for here are
+// numbers, not sheets, so that a wrong sum or a wrong high is found without a proof of the call in `halls` above.
 ghost use mathlib.Core.Path.{_≡_};
 ghost use Prim.Native.Nat.{_+_, _-_, _≤_, min};
-ghost use lib.ListN.{length, getD};
+ghost use lib.ListN.{length};
 ghost use Rattle.common.specs.Buffers.{padded};
 ghost use Rattle.common.specs.Lists.{zipWith};
 ghost use Rattle.checks.specs.Limits.{maxSlots};
-ghost use Rattle.schedules.specs.Tabulate.{tab};
-ghost use Rattle.hall_uses.specs.Uses.{CanAdd};
+ghost use Rattle.hall_uses.specs.Uses.{hallHigh, CanAdd};
 
 // A hall's high in a slot: the smaller of its own blowers and the limit less what earlier halls use, which is none
 // where they use as many as the limit.
@@ -24,7 +23,7 @@ fn hall_high(limit: u8, used: u8, blowers: u8) -> u8
 // The highs of a hall in its slots, 0 past its last one.
 pub fn hall_highs(limit: u8, used: &[u8; 96], slots: usize, blowers: u8) -> [u8; 96]
     requires { ⌜ (slots ≤ maxSlots) × (length (now used) ≡ maxSlots) ⌝ }
-    ensures { λ r. ⌜ r ≡ padded maxSlots (tab slots (λ t. min blowers (limit - getD (now (used .entry)) t 0))) ⌝ }
+    ensures { λ r. ⌜ r ≡ padded maxSlots (hallHigh limit (now (used .entry)) slots blowers) ⌝ }
 {
     let mut highs = [0u8; 96];
     let mut t = 0;

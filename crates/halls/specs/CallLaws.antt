@@ -2,7 +2,7 @@
 use mathlib.Core.Path.{_≡_, refl, sym, ap, _∙_, subst}
 use mathlib.Core.Bool.{Bool, true, false, cond}
 use mathlib.Core.List.{List, [], _∷_, _++_, map}
-use Prim.Native.Nat.{ℕ, zero, suc, _+_, _-_, _≤_, min}
+use Prim.Native.Nat.{ℕ, zero, suc, _+_, _≤_}
 use native.Mathlib.Omega.{arith}
 use lib.Dec.{leb}
 use lib.ListN.{getD, take, drop}
@@ -17,43 +17,43 @@ use Rattle.checks.specs.FaultLaws.{false-fault, append-nil-parts, Numbered, num
 use Rattle.checks.specs.RangeLaws.{inRange-outside}
 use Rattle.sheet.specs.declared.Reading.{Reading}
 use Rattle.sheet.specs.OwnChecks.{ReadFrom}
-use Rattle.schedules.specs.Tabulate.{tab}
 use Rattle.placing.specs.ReadLaws.{sheet-read}
 use Rattle.stretches.specs.Days.{HighsOf}
 use Rattle.planning.specs.declared.Planned.{Planned}
 use Rattle.planning.specs.declared.PlannedDay.{PlannedDay}
 use Rattle.planning.specs.Contracts.{ReadUnder, UnderAt}
+use Rattle.hall_uses.specs.Uses.{hallHigh}
+use Rattle.hall_uses.specs.UseLaws.{length-hallHigh, hallHigh-below}
 use Rattle.halls.specs.declared.HallPlanned.{HallPlanned}
-use Rattle.halls.specs.Halls.{Hall, lent, noHall, four, maxLimit, maxHalls, hallHigh, hallProblem, shortHall, hallRefusal, usedBy, usedAfter, hallOutcome, noneUsed, hallsInOrder, hallsFaults, hallsRefusal, nothing, notPlanned, outcomes, outcomeOf, hallsAnswer}
+use Rattle.halls.specs.Halls.{Hall, lent, noHall, four, maxLimit, maxHalls, hallProblem, shortHall, hallRefusal, usedBy, usedAfter, hallOutcome, noneUsed, hallsInOrder, hallsFaults, hallsRefusal, nothing, notPlanned, outcomes, outcomeOf, hallsAnswer}
 use Rattle.halls.specs.Contracts.{Used, left, HallDone, outcomeIf, usedIf, HallDoneIf}
-use Rattle.halls.specs.HallLaws.{length-hallHigh, hallHigh-below, used-next}
+use Rattle.halls.specs.HallLaws.{used-next}
 
 -- One hall -----------------------------------------------------------------------------
 
 -- the bytes that `hall_highs` gives are the hall's highs
 pub highs-of-hall : (limit : ℕ) (used b : List ℕ) {r : Reading} → ReadFrom (faults b) (sheetOf b) r → {H : List ℕ}
-    → H ≡ padded maxSlots (tab (r .slots) (λ t. min (r .blowers) (limit - getD used t 0)))
-    → r .number ≡ 0 → HighsOf (r .slots) (r .blowers) (hallHigh limit used (sheetOf b)) H
-unfolding hallHigh
+    → H ≡ padded maxSlots (hallHigh limit used (r .slots) (r .blowers))
+    → r .number ≡ 0 → HighsOf (r .slots) (r .blowers) (let s = sheetOf b in hallHigh limit used (s .slots) (s .blowers)) H
 highs-of-hall limit used b {r} h {H} e z =
     let a = sheet-read h z in
     let s : Sheet = sheetOf b in
     record {
-      each = length-hallHigh limit used s ∙ sym (a .slots);
-      below = λ t l. omega (arith, hallHigh-below limit used s t (omega (arith, a .slots)), a .blowers);
-      bytes = e ∙ (λ i. padded maxSlots (tab (a .slots i) (λ t. min (a .blowers i) (limit - getD used t 0))));
+      each = length-hallHigh limit used (s .slots) (s .blowers) ∙ sym (a .slots);
+      below = λ t l. omega (arith, hallHigh-below limit used (s .slots) (s .blowers) t (omega (arith, a .slots)), a .blowers);
+      bytes = e ∙ (λ i. padded maxSlots (hallHigh limit used (a .slots i) (a .blowers i)));
     }
 
 -- what planning under them gives is what the definitions say of the hall
 module _ (limit : ℕ) (used b listing placing : List ℕ) {r : Reading} (h : ReadFrom (faults b) (sheetOf b) r) {H listing′ placing′ : List ℕ}
-    (highs : r .number ≡ 0 → HighsOf (r .slots) (r .blowers) (hallHigh limit used (sheetOf b)) H) {x : PlannedDay}
+    (highs : r .number ≡ 0 → HighsOf (r .slots) (r .blowers) (let s = sheetOf b in hallHigh limit used (s .slots) (s .blowers)) H) {x : PlannedDay}
     (p : ReadUnder r H listing listing′ placing placing′ x) where
   abbrev hall : Hall
   hall = lent b listing placing
 
   under : UnderAt (hallRefusal limit used hall) (hallProblem limit used hall) listing listing′ placing placing′ x
   unfolding hallRefusal hallProblem shortHall
-  under = p (faults b) (sheetOf b) h (hallHigh limit used (sheetOf b)) highs
+  under = let s = sheetOf b in p (faults b) s h (hallHigh limit used (s .slots) (s .blowers)) highs
 
   pub busy-is : x .counts ≡ usedBy limit used hall
   unfolding usedBy

@@ -2,7 +2,7 @@
 use mathlib.Core.Path.{_≡_, refl, sym, ap, _∙_}
 use mathlib.Core.Bool.{Bool, true, false, cond}
 use mathlib.Core.List.{List, []}
-use Prim.Native.Nat.{ℕ, _+_, _-_, _≤_, _<_, min}
+use Prim.Native.Nat.{ℕ, _+_, _-_, _≤_, _<_}
 use native.Mathlib.Decide.{decLt}
 use native.Mathlib.Omega.{arith}
 use lib.Dec.{eqb}
@@ -18,45 +18,36 @@ use Rattle.checks.specs.Checks.{faults}
 use Rattle.checks.specs.RangeLaws.{ValuesInRange}
 use Rattle.sheet.specs.OwnCheckLaws.{bytes-checked}
 use Rattle.schedules.specs.Demands.{fullHigh}
-use Rattle.schedules.specs.Tabulate.{length-tab, getD-tab, length-zipWith, getD-zipWith}
+use Rattle.schedules.specs.Tabulate.{length-zipWith, getD-zipWith}
 use Rattle.planning.specs.Problem.{Problem, ProblemInRange, canBePlanned, countsOf}
 use Rattle.planning.specs.Planning.{busyAfter}
 use Rattle.planning.specs.ProblemLaws.{feedings-may, length-countsOf}
 use Rattle.planning.specs.AloneLaws.{whole-in-range, length-fullHigh, fullHigh-at}
 use Rattle.planning.specs.CallAnswers.{passed-planned}
-use Rattle.hall_uses.specs.Uses.{CanAdd}
-use Rattle.halls.specs.Halls.{Hall, maxLimit, hallHigh, hallProblem, shortHall, hallRefusal, usedBy, usedAfter, noneUsed}
+use Rattle.hall_uses.specs.Uses.{hallHigh, CanAdd}
+use Rattle.hall_uses.specs.UseLaws.{length-hallHigh, hallHigh-at, hallHigh-below}
+use Rattle.halls.specs.Halls.{Hall, maxLimit, hallProblem, shortHall, hallRefusal, usedBy, usedAfter, noneUsed}
 use Rattle.halls.specs.Contracts.{Used}
 
 -- Its highs, and the problem ---------------------------------------------------------
 
-module _ (limit : ℕ) (used : List ℕ) (s : Sheet) where
-  pub length-hallHigh : length (hallHigh limit used s) ≡ s .slots
-  unfolding hallHigh
-  length-hallHigh = length-tab (s .slots) (λ t. min (s .blowers) (limit - getD used t 0))
-
-  pub hallHigh-at : (t : ℕ) → t < s .slots → getD (hallHigh limit used s) t 0 ≡ min (s .blowers) (limit - getD used t 0)
-  unfolding hallHigh
-  hallHigh-at t l = getD-tab (s .slots) (λ t. min (s .blowers) (limit - getD used t 0)) 0 t l
-
-  pub hallHigh-below : (t : ℕ) → t < s .slots → getD (hallHigh limit used s) t 0 ≤ s .blowers
-  hallHigh-below t l = omega (arith, hallHigh-at t l)
-
-  -- where the limit leaves all its blowers in each of its slots, it is planned as it is alone
-  pub hallHigh-full : ((t : ℕ) → t < s .slots → s .blowers ≤ limit - getD used t 0) → hallHigh limit used s ≡ fullHigh s
-  hallHigh-full room =
-      ext-getD 0 (hallHigh limit used s) (fullHigh s) (length-hallHigh ∙ sym (length-fullHigh s))
-      (λ t l. let k : t < s .slots = rw length-hallHigh at l in omega (arith, hallHigh-at t k, room t k, fullHigh-at s t k))
+-- where the limit leaves all its blowers in each of its slots, it is planned as it is alone
+pub hallHigh-full : (limit : ℕ) (used : List ℕ) (s : Sheet) → ((t : ℕ) → t < s .slots → s .blowers ≤ limit - getD used t 0)
+    → hallHigh limit used (s .slots) (s .blowers) ≡ fullHigh s
+hallHigh-full limit used s room =
+    let long = length-hallHigh limit used (s .slots) (s .blowers) in
+    ext-getD 0 (hallHigh limit used (s .slots) (s .blowers)) (fullHigh s) (long ∙ sym (length-fullHigh s))
+    (λ t l. let k : t < s .slots = rw long at l in omega (arith, hallHigh-at limit used (s .slots) (s .blowers) t k, room t k, fullHigh-at s t k))
 
 module _ (limit : ℕ) (used : List ℕ) (h : Hall) where
   pub hall-in-range : {least : ℕ} → let s = sheetOf (h .bytes) in ValuesInRange least s (length (s .jobs)) true → ProblemInRange (hallProblem limit used h)
   unfolding hallProblem
   hall-in-range v =
       let s = sheetOf (h .bytes) in
-      whole-in-range s (hallHigh limit used s) (length-hallHigh limit used s) v (hallHigh-below limit used s)
+      whole-in-range s (hallHigh limit used (s .slots) (s .blowers)) (length-hallHigh limit used (s .slots) (s .blowers)) v (hallHigh-below limit used (s .slots) (s .blowers))
 
   -- a hall with number 0 is well-formed and was planned
-  pub hall-planned : hallRefusal limit used h .number ≡ 0 → (faults (h .bytes) ≡ []) × (canBePlanned (hallProblem limit used h) ≡ true)
+  hall-planned : hallRefusal limit used h .number ≡ 0 → (faults (h .bytes) ≡ []) × (canBePlanned (hallProblem limit used h) ≡ true)
   unfolding hallRefusal
   hall-planned e =
       let z = passed-planned (faults (h .bytes)) (bytes-checked (h .bytes) .numbered) (shortHall h) (canBePlanned (hallProblem limit used h)) e in
@@ -79,13 +70,13 @@ module _ (limit : ℕ) (used : List ℕ) (h : Hall) where
     hall-counts = length-countsOf p in-range (hall-planned z .1)
 
     -- its plan keeps its highs
-    pub hall-keeps : (t : ℕ) → t < sheetOf (h .bytes) .slots → getD (countsOf p) t 0 ≤ limit - getD used t 0
+    hall-keeps : (t : ℕ) → t < sheetOf (h .bytes) .slots → getD (countsOf p) t 0 ≤ limit - getD used t 0
     unfolding hallProblem countsOf
     hall-keeps t l =
-        omega (arith, feedings-may p in-range (hall-planned z .1) .0 .bounded t l .1, hallHigh-at limit used (sheetOf (h .bytes)) t l)
+        omega (arith, feedings-may p in-range (hall-planned z .1) .0 .bounded t l .1, hallHigh-at limit used _ (sheetOf (h .bytes) .blowers) t l)
 
   -- refused by any number, it uses nothing
-  pub refused-uses : (hallRefusal limit used h .number ≡ 0 → ⊥) → usedBy limit used h ≡ noneUsed
+  refused-uses : (hallRefusal limit used h .number ≡ 0 → ⊥) → usedBy limit used h ≡ noneUsed
   unfolding usedBy busyAfter
   refused-uses n = rw (ne-eqb (hallRefusal limit used h .number) 0 n)
 
@@ -101,7 +92,7 @@ module _ (limit : ℕ) (used : List ℕ) (h : Hall) where
       go false q = length-replicate {A = ℕ} maxSlots 0
 
   -- whatever its sheet, it uses at most what is left
-  pub hall-uses : (t : ℕ) → getD (usedBy limit used h) t 0 ≤ limit - getD used t 0
+  hall-uses : (t : ℕ) → getD (usedBy limit used h) t 0 ≤ limit - getD used t 0
   unfolding usedBy busyAfter
   hall-uses t = go (eqb (hallRefusal limit used h .number) 0) refl
     where

@@ -2,7 +2,7 @@
 -- answers and what it leaves in each lent buffer. Definitions only. Assumes nothing.
 use mathlib.Core.Bool.{Bool, _||_, cond}
 use mathlib.Core.List.{List, [], _∷_, _++_, map}
-use Prim.Native.Nat.{ℕ, _+_, _-_, min}
+use Prim.Native.Nat.{ℕ, _+_}
 use lib.Dec.{eqb}
 use lib.ListN.{getD, take, drop, replicate}
 use Rattle.common.specs.Lists.{zipWith}
@@ -11,10 +11,10 @@ use Rattle.checks.specs.Limits.{maxSlots}
 use Rattle.checks.specs.Sheet.{Sheet, sheetOf}
 use Rattle.checks.specs.Checks.{outside, firstRefusal, faults}
 use Rattle.checks.specs.CallChecks.{hallsChecks}
-use Rattle.schedules.specs.Tabulate.{tab}
 use Rattle.planning.specs.declared.Planned.{Planned}
 use Rattle.planning.specs.Problem.{Problem, wholeDay, listingOf, wordsFor}
 use Rattle.planning.specs.Planning.{planChecks, shortPlan, shortPlacing, listedAnswer, listingAfter, placingAfter, busyAfter}
+use Rattle.hall_uses.specs.Uses.{hallHigh}
 use Rattle.halls.specs.declared.HallsPlanned.{HallsPlanned}
 
 -- the limit on busy blowers in a slot, at most
@@ -54,13 +54,10 @@ pub record HallOutcome : Type 0 where
 --
 -- `used` has for each of 96 slots the busy blowers of the halls before it.
 
--- its high in each of its slots: the smaller of its own blowers and the limit less what earlier halls use
-unfoldable pub hallHigh : (limit : ℕ) (used : List ℕ) → Sheet → List ℕ
-hallHigh limit used s = tab (s .slots) (λ t. min (s .blowers) (limit - getD used t 0))
-
--- its sheet is planned, or held, under these highs
+-- its sheet is planned, or held, under its highs: in each slot the smaller of its own blowers and the limit less what
+-- earlier halls use
 unfoldable pub hallProblem : (limit : ℕ) (used : List ℕ) → Hall → Problem
-hallProblem limit used h = let s : Sheet = sheetOf (h .bytes) in wholeDay s (hallHigh limit used s)
+hallProblem limit used h = let s : Sheet = sheetOf (h .bytes) in wholeDay s (hallHigh limit used (s .slots) (s .blowers))
 
 -- one of its buffers is too short
 unfoldable pub shortHall : Hall → Bool

@@ -1,5 +1,5 @@
-// The call that plans halls. A chain of thin functions, one for each hall, so that every hall's answer and buffers are
-// an equation of their own; what is used so far goes from one to the next.
+// The call that plans halls: hall after hall by thin functions, so that every hall's answer and buffers are an equation
+// of their own; what is used so far goes from one to the next.
 use crate::HallPlanned;
 use crate::HallsPlanned;
 use checks::Refusal;

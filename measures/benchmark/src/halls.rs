@@ -1,5 +1,5 @@
-//! Four halls planned by one call, beside the same four sheets planned alone. The limit leaves each
-//! hall all its blowers, so that the plans are the same.
+//! Four halls planned by one call, beside the same four sheets planned alone. The greatest limit
+//! leaves each hall all its blowers, so that the plans are the same; lower ones bind.
 
 use crate::engines;
 use crate::planning::{row, PASSES};
@@ -38,7 +38,11 @@ fn groups(kind: Kind, count: usize) -> Vec<Group> {
 /// Plans a group, and gives what became of each sheet.
 type Call = fn(&Group, &mut Buffers) -> [Planned; MOST_HALLS];
 
-fn together(group: &Group, Buffers(buffers): &mut Buffers) -> [Planned; MOST_HALLS] {
+fn together(group: &Group, buffers: &mut Buffers) -> [Planned; MOST_HALLS] {
+    behind(MOST_LIMIT, group, buffers)
+}
+
+fn behind(limit: u32, group: &Group, Buffers(buffers): &mut Buffers) -> [Planned; MOST_HALLS] {
     let mut halls = group.iter().zip(buffers);
     let lent = array::from_fn(|_| {
         let (sheet, (listing, placing)) = halls.next().expect("there are four");
@@ -48,7 +52,7 @@ fn together(group: &Group, Buffers(buffers): &mut Buffers) -> [Planned; MOST_HAL
             placing,
         }
     });
-    library::plan_halls(MOST_LIMIT, MOST_HALLS as u32, lent).hall
+    library::plan_halls(limit, MOST_HALLS as u32, lent).hall
 }
 
 fn alone(group: &Group, Buffers(buffers): &mut Buffers) -> [Planned; MOST_HALLS] {
@@ -126,16 +130,18 @@ pub fn run(count: usize, slow: usize) -> Result<(), String> {
     Ok(())
 }
 
-/// Plans each group once.
+/// Plans each group once: the sheets alone, or as halls behind a limit.
 pub fn once(way: &str, kind: Kind, count: usize) -> Option<()> {
-    let call: Call = match way {
-        "together" => together,
-        "alone" => alone,
-        _ => return None,
+    let limit = match way {
+        "alone" => None,
+        limit => Some(limit.parse().ok()?),
     };
     let mut buffers = Buffers::new();
     for group in groups(kind, count) {
-        black_box(call(&group, &mut buffers));
+        black_box(match limit {
+            Some(limit) => behind(limit, &group, &mut buffers),
+            None => alone(&group, &mut buffers),
+        });
     }
     Some(())
 }

@@ -24,13 +24,13 @@ const USAGE: &str = "usage: benchmark planning SHEETS SLOW-SHEETS [LEMON-PROGRAM
        benchmark once library|plain|placing|both|causes KIND SHEETS
        benchmark shortfall library|plain|by-slot KIND SHEETS
        benchmark practice practice|write|read RATIONS SEEDS
-       benchmark halls together|alone KIND GROUPS
+       benchmark halls LIMIT|alone KIND GROUPS
 SLOW-SHEETS is how many of the sheets the slower implementations get, and SLOW-GROUPS how many of
 the groups of four. PLOT is the file that the plot is written to. `once` plans each sheet once, by
 the library into a plan buffer, a placing buffer or both, or lists its causes, `shortfall` asks the
 shortfall of each once, `practice` makes, writes or reads the practice sheets of the first SEEDS
-seeds that draw RATIONS rations, and `halls` with a KIND plans each group once, as halls or one
-sheet after another, for instructions to be counted.";
+seeds that draw RATIONS rations, and `halls` with a KIND plans each group once, as halls behind
+LIMIT or one sheet after another, for instructions to be counted.";
 
 fn answer(words: &[&str]) -> Option<Result<(), String>> {
     Some(match *words {

@@ -1,5 +1,4 @@
 -- `hall_uses::add_used` meets its contract. Assumes nothing.
-use mathlib.Core.Path.{refl}
 use Prim.Native.Nat.{_+_, _≤_, _-_}
 use lib.ListN.{getD}
 use Rattle.checks.specs.Limits.{maxSlots}
@@ -37,7 +36,7 @@ loop-less : tie.Need-loop-less Inv-loop μ-loop
 loop-less c = omega arith
 
 loop-again : tie.Need-loop-again Inv-loop μ-loop
-loop-again c = (omega arith, filled-next maxSlots (λ k. getD (c .before .before .before .before .args .used .now) k 0 + getD (c .before .before .before .before .args .counts .now) k 0) _ _ (c .before .before .before .loop .inv .1) (omega arith) _ refl)
+loop-again c = (omega arith, filled-next maxSlots (λ k. getD (c .before .before .before .before .args .used .now) k 0 + getD (c .before .before .before .before .args .counts .now) k 0) _ _ (c .before .before .before .loop .inv .1) (omega arith) _ (omega arith))
 
 returns : tie.Need-returns Inv-loop μ-loop
 returns c = sums-end (c .before .before .args .used .now) (c .before .before .args .counts .now) (c .before .before .pre .used-long) (c .before .before .pre .counts-long) (c .before .loop .t) (omega arith) _ (c .before .loop .inv .1)

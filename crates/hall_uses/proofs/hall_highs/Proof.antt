@@ -37,7 +37,7 @@ loop-again : tie.Need-loop-again Inv-loop μ-loop
 loop-again c = (omega arith, omega arith, filled-next maxSlots (λ k. min (c .before .before .before .before .args .blowers) (c .before .before .before .before .args .limit - getD (c .before .before .before .before .args .used .now) k 0)) _ _ (c .before .before .before .loop .inv .2) (omega arith) _ (c .hall-high .ensures))
 
 returns : tie.Need-returns Inv-loop μ-loop
-returns c = highs-end (λ k. min (c .before .before .args .blowers) (c .before .before .args .limit - getD (c .before .before .args .used .now) k 0)) (c .before .before .args .slots) (c .before .loop .t) (omega arith) (omega arith) _ (c .before .loop .inv .2)
+returns c = highs-end (c .before .before .args .limit) (c .before .before .args .used .now) (c .before .before .args .slots) (c .before .before .args .blowers) (c .before .loop .t) (omega arith) (omega arith) _ (c .before .loop .inv .2)
 
 pub hall-highs-spec : {M : Type 1} → statement M
 hall-highs-spec =
