@@ -16,7 +16,7 @@ use Rattle.hall_uses.specs.Uses.{hallHigh}
 module _ (limit : ℕ) (used : List ℕ) (slots blowers : ℕ) where
   pub length-hallHigh : length (hallHigh limit used slots blowers) ≡ slots
   unfolding hallHigh
-  length-hallHigh = length-tab slots (λ t. min blowers (limit - getD used t 0))
+  length-hallHigh = length-tab slots _
 
   pub hallHigh-at : (t : ℕ) → t < slots → getD (hallHigh limit used slots blowers) t 0 ≡ min blowers (limit - getD used t 0)
   unfolding hallHigh

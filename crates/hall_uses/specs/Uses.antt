@@ -7,8 +7,8 @@ use lib.ListN.{length, getD}
 use Rattle.checks.specs.Limits.{maxSlots}
 use Rattle.schedules.specs.Tabulate.{tab}
 
--- A hall's high in each of its slots: the smaller of its own blowers and the limit less what earlier halls use there,
--- which `used` has for each of 96 slots.
+-- A hall's high in each of its slots, t from 0: the smaller of its own blowers and the limit less what earlier halls use
+-- there. The difference is cut at 0. `used` has what they use, and nothing is used in a slot past its end.
 unfoldable pub hallHigh : (limit : ℕ) (used : List ℕ) (slots blowers : ℕ) → List ℕ
 hallHigh limit used slots blowers = tab slots (λ t. min blowers (limit - getD used t 0))
 

@@ -8,8 +8,8 @@ ghost use Rattle.common.specs.Lists.{zipWith};
 ghost use Rattle.checks.specs.Limits.{maxSlots};
 ghost use Rattle.hall_uses.specs.Uses.{hallHigh, CanAdd};
 
-// A hall's high in a slot: the smaller of its own blowers and the limit less what earlier halls use, which is none
-// where they use as many as the limit.
+// A hall's high in a slot: the smaller of its own blowers and the limit less what earlier halls use. Nothing is left
+// where they use as many as the limit, or more.
 fn hall_high(limit: u8, used: u8, blowers: u8) -> u8
     ensures { λ r. ⌜ r ≡ min blowers (limit - used) ⌝ }
 {

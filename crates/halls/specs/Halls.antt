@@ -1,5 +1,5 @@
--- Halls behind one mains fuse (request 108): the bounds under which each is planned, what it uses, what the call
--- answers and what it leaves in each lent buffer. Definitions only. Assumes nothing.
+-- Halls behind one mains fuse (request 108): the problem that each is, what it uses, what the call answers and what it
+-- leaves in each lent buffer. A hall's highs are `hallHigh` of `hall_uses`. Definitions only. Assumes nothing.
 use mathlib.Core.Bool.{Bool, _||_, cond}
 use mathlib.Core.List.{List, [], _∷_, _++_, map}
 use Prim.Native.Nat.{ℕ, _+_}
@@ -54,8 +54,8 @@ pub record HallOutcome : Type 0 where
 --
 -- `used` has for each of 96 slots the busy blowers of the halls before it.
 
--- its sheet is planned, or held, under its highs: in each slot the smaller of its own blowers and the limit less what
--- earlier halls use
+-- its sheet is planned, or held, under its highs (`hallHigh`): in each slot the smaller of its own blowers and the limit
+-- less what earlier halls use
 unfoldable pub hallProblem : (limit : ℕ) (used : List ℕ) → Hall → Problem
 hallProblem limit used h = let s : Sheet = sheetOf (h .bytes) in wholeDay s (hallHigh limit used (s .slots) (s .blowers))
 

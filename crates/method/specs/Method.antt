@@ -28,8 +28,8 @@ dayBounds slots blowers = boundsUnder slots (replicate slots blowers)
 unfoldable pub onRun : ℕ → ℕ → (ℕ → ℕ) → List ℕ → List ℕ
 onRun t n f xs = zipWith (λ i x. cond (leb t i && ltb i (t + n)) (f x) x) (range 1 (length xs)) xs
 
--- blower k idle for n slots from slot t on: high there set to k − 1. (Blowers are treated from m down, so that high
--- there is k or more; written as the smaller of the two, the step also serves bounds that start below m.)
+-- blower k idle for n slots from slot t on: high there set to the smaller of itself and k − 1 (request 108). Where every
+-- high begins at m that is k − 1, document 01's step: blowers are treated from m down, so that high there is k or more.
 unfoldable pub idleFor : ℕ → ℕ → Bounds → ℕ → Bounds
 idleFor k t b n = record { low = b .low; high = onRun t n (min (k - 1)) (b .high) }
 
