@@ -79,6 +79,15 @@ enum {
     KIWIMOUND_CAUSE_LOW_ABOVE_HIGH = 3
 };
 
+/* Orders of two plans, said of the first sheet that a comparison is lent: its plan is the same as the second's, or
+ * comes before or after it. The rule is at kiwimound_compare. */
+enum {
+    KIWIMOUND_ORDER_NO = 0, /* a sheet is refused by any number, 12 included, so that there are no two plans */
+    KIWIMOUND_ORDER_SAME = 1,
+    KIWIMOUND_ORDER_BEFORE = 2,
+    KIWIMOUND_ORDER_AFTER = 3
+};
+
 /* Answers ---------------------------------------------------------------------------------------------------------- */
 
 /* What a sheet says. On a refusal every field after `line` is 0. */
@@ -121,11 +130,12 @@ typedef struct kiwimound_halls {
     kiwimound_planned hall[KIWIMOUND_MAX_HALLS];
 } kiwimound_halls;
 
-/* Of a comparison: whether the two days are the same; false on a refusal. */
+/* Of a comparison: the order of the two plans, KIWIMOUND_ORDER_SAME, KIWIMOUND_ORDER_BEFORE or KIWIMOUND_ORDER_AFTER;
+ * KIWIMOUND_ORDER_NO on a refusal, on 12 too. */
 typedef struct kiwimound_compared {
     uint32_t number;
     uint32_t line;
-    bool same;
+    uint32_t order;
 } kiwimound_compared;
 
 /* Of a set of slots: the feedings forced into it less its capacity, from -768 to 6,144; 0 on a refusal. */
@@ -251,10 +261,21 @@ kiwimound_halls kiwimound_plan_halls(uint32_t limit, uint32_t halls,
 /* Plans a sheet for its number alone: refusals 1 to 9 and 13, then 12, `length` 0. Changes nothing. */
 kiwimound_planned kiwimound_plan_number(const uint8_t *sheet, size_t sheet_length);
 
-/* Whether two sheets have the same day: as many slots, and as many feedings in each. Refusals 1 to 9 and 13, then
- * 12, all of the first sheet's before the second's; the answer does not say which sheet was at fault. Changes
- * nothing. */
-kiwimound_compared kiwimound_compare(const uint8_t *first, size_t first_length, const uint8_t *second, size_t second_length);
+/* Plans two sheets and says whether the first one's plan is the same as the second's, or comes before or after it.
+ * Refusals 1 to 9 and 13, then 12, all of the first sheet's before the second's; the answer does not say which sheet
+ * was at fault. Changes nothing.
+ *
+ * The plan with fewer slots comes first. Of two with as many, the first slot in which the lists of fed tanks differ
+ * decides. A slot's list is the tanks of its feed lines, in their order, which is that of the sheet. Of two lists the
+ * one with the smaller tank at the first place that differs comes first; where there is no such place, the one that
+ * ends first. So a slot without a feeding comes before one with any.
+ *
+ * Two plans are the same exactly if they have as many slots and the same list in each. Nothing else is compared: sheets
+ * with other windows, meals, blowers or wake costs can have the same plan. This is a total order: of any two plans
+ * exactly one of the three holds; with the sheets exchanged, before becomes after; and a plan before one that is before
+ * a third is before that one. So sheets that have plans can be sorted. */
+kiwimound_compared kiwimound_compare(const uint8_t *first, size_t first_length,
+                                     const uint8_t *second, size_t second_length);
 
 /* Lists why each stretch of a sheet's plan ends where it does. Refusals 1 to 9 and 13, then 10 for `out` under
  * KIWIMOUND_CAUSES_BYTES, then 12; on 12, as on every other refusal, no byte is changed. Number 0 writes the listing at

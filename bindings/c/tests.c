@@ -1,6 +1,6 @@
 /* Every call of the library, on the days of document 01 ("Days at the edge"), on days with several meals for a tank, on
- * days for the placing, for the bill and for causes, on halls and on practice sheets: what it answers, what it writes,
- * and what keeps its value. */
+ * days for the placing, for the bill, for the order of plans and for causes, on halls and on practice sheets: what it
+ * answers, what it writes, and what keeps its value. */
 #include "kiwimound.h"
 
 #include <stdio.h>
@@ -53,7 +53,7 @@ static unsigned failures = 0;
     "    3    1    1    1\n" \
     "    1    1    3    1\n"
 
-/* The same counts from another ration. */
+/* The same counts, but of another tank. */
 #define LAST_SLOT \
     "    3    1    1    1\n" \
     "    7    3    3    1\n"
@@ -226,7 +226,7 @@ static void test_meals(void)
     const kiwimound_bounds_answer b = kiwimound_bounds(LEND(BAD_MEAL), none, 4, none, 4);
     EXPECT(b.number == KIWIMOUND_BAD_MEAL && b.line == 3 && !b.yes);
     const kiwimound_compared c = kiwimound_compare(LEND(TWO_MEALS), LEND(BAD_MEAL));
-    EXPECT(c.number == KIWIMOUND_BAD_MEAL && c.line == 3 && !c.same);
+    EXPECT(c.number == KIWIMOUND_BAD_MEAL && c.line == 3 && c.order == KIWIMOUND_ORDER_NO);
     guard();
     p = kiwimound_plan_both(LEND(BAD_MEAL), listing, sizeof listing, placing, 0);
     EXPECT(p.number == KIWIMOUND_BAD_MEAL && p.line == 3 && p.length == 0);
@@ -793,16 +793,196 @@ static void test_halls_of_practice(void)
     EXPECT(planned > 10 && held > 10 && held_by_limit > 10 && at_limit > 100);
 }
 
+/* A sheet for each of the numbers 1 to 9 and 13, and the line that it names. */
+static const struct {
+    const char *sheet;
+    uint32_t number, line;
+} faulty_sheets[] = {
+    {"", KIWIMOUND_BAD_LENGTH, 0},
+    {"    3    1    1   00\n", KIWIMOUND_BAD_FIELD, 1},
+    {"   97    1    1    0\n", KIWIMOUND_BAD_SLOTS, 1},
+    {"    3    9    1    0\n", KIWIMOUND_BAD_BLOWERS, 1},
+    {"    3    1  201    0\n", KIWIMOUND_BAD_WAKE, 1},
+    {"    3    1    1    1\n", KIWIMOUND_BAD_RATIONS, 1},
+    {"    3    1    1    1\n    0    1    3    1\n", KIWIMOUND_BAD_TANK, 2},
+    {BAD_WINDOW, KIWIMOUND_BAD_WINDOW, 3},
+    {"    3    1    1    1\n    1    1    3    4\n", KIWIMOUND_BAD_VOLUME, 2},
+    {BAD_MEAL, KIWIMOUND_BAD_MEAL, 3},
+};
+enum { FAULTY_SHEETS = sizeof faulty_sheets / sizeof *faulty_sheets };
+
+static bool is_compared(const char *first, const char *second, uint32_t number, uint32_t line, uint32_t order)
+{
+    const kiwimound_compared c =
+        kiwimound_compare((const uint8_t *)first, strlen(first), (const uint8_t *)second, strlen(second));
+    return c.number == number && c.line == line && c.order == order;
+}
+
+/* Tanks 1 to 7, all in slot 1. */
+#define SEVEN_TANKS \
+    "    1    1    1    1\n" \
+    "    2    1    1    1\n" \
+    "    3    1    1    1\n" \
+    "    4    1    1    1\n" \
+    "    5    1    1    1\n" \
+    "    6    1    1    1\n" \
+    "    7    1    1    1\n"
+
+/* Days in the order of their plans; equal ranks have the same plan. Beside each are the tanks fed, slot by slot, with 0
+ * where there are none. Most windows are as long as their volume, so that the sheet leaves its plan no choice. */
+static const struct {
+    uint32_t rank;
+    const char *sheet;
+} ranked[] = {
+    {1, "    1    1    0    0\n"}, /* 0 */
+    {2, "    1    8    0    7\n" SEVEN_TANKS}, /* 1 2 3 4 5 6 7, which ends before the next */
+    {3, "    1    8    0    8\n" SEVEN_TANKS "    8    1    1    1\n"}, /* 1 2 3 4 5 6 7 8 */
+    {4, "    1    8    0    8\n" SEVEN_TANKS "    9    1    1    1\n"}, /* 1 2 3 4 5 6 7 9 */
+    {5, "    1    1    0    1\n" /* 4: fewer tanks, but the lists above begin with a smaller one */
+        "    4    1    1    1\n"},
+    {6, "    1    2    0    2\n" /* 4 9 */
+        "    4    1    1    1\n"
+        "    9    1    1    1\n"},
+    {7, "    1    1    0    1\n" /* 5 */
+        "    5    1    1    1\n"},
+    {7, "    1    8  200    1\n" /* 5, with other blowers and wake cost */
+        "    5    1    1    1\n"},
+    {8, "    2    1    0    0\n"}, /* 0, 0 */
+    {9, "    2    1    0    2\n" /* 1, 3 */
+        "    1    1    1    1\n"
+        "    3    2    2    1\n"},
+    {10, "    2    1    0    2\n" /* 3, 1: in slot 2 it would come first */
+         "    1    2    2    1\n"
+         "    3    1    1    1\n"},
+    {11, "    2    1    0    2\n" /* 5, 6: ration 1 in slot 1, where the day above has ration 2 */
+         "    5    1    1    1\n"
+         "    6    2    2    1\n"},
+    {12, "    2    1    0    1\n" /* 9, 9 */
+         "    9    1    2    2\n"},
+    {12, "    2    1    0    2\n" /* 9, 9 as two meals */
+         "    9    1    1    1\n"
+         "    9    2    2    1\n"},
+    {13, "    3    1    4    0\n"}, /* 0, 0, 0: D alone puts it after all above */
+    {14, ONE_FEEDING}, /* 0, 0, 1 */
+    {14, "    3    2  200    1\n" /* 0, 0, 1 from another window */
+         "    1    2    3    1\n"},
+    {15, LAST_SLOT}, /* 0, 0, 7: the counts of the two above */
+    {16, "    3    1    1    1\n" /* 1, 0, 0 */
+         "    1    1    1    1\n"},
+    {17, "    3    1    2    2\n" /* 1, 0, 2 */
+         "    1    1    1    1\n"
+         "    2    3    3    1\n"},
+    {18, "    3    2    1    3\n" /* 1 3, 2 3, 3: document 01 */
+         "    1    1    2    1\n"
+         "    2    1    2    1\n"
+         "    3    1    3    3\n"},
+    {18, "    3    2    1    3\n" /* 1 3, 2 3, 3 */
+         "    1    1    1    1\n"
+         "    2    2    2    1\n"
+         "    3    1    3    3\n"},
+    {19, "    3    1    1    1\n" /* 2, 0, 0 */
+         "    2    1    1    1\n"},
+    {20, "    3    2    1    3\n" /* 2 3, 1 3, 3: the counts of rank 18 */
+         "    1    2    2    1\n"
+         "    2    1    1    1\n"
+         "    3    1    3    3\n"},
+    {21, "    4    1    1    1\n" /* 0, 0, 1, 0: D alone differs from rank 14 */
+         "    1    3    3    1\n"},
+    {22, "    4    1    2    2\n" /* 1, 1, 2, 2 */
+         "    1    1    2    2\n"
+         "    2    3    4    2\n"},
+    {23, FOUR_SLOTS}, /* 1, 1, 2 3, 2: in slot 3 the list above ends first */
+    {23, "    4    2    0    3\n" /* 1, 1, 2 3, 2 */
+         "    1    1    2    2\n"
+         "    2    3    4    2\n"
+         "    3    3    3    1\n"},
+    {24, "    4    2    0    3\n" /* 1, 1, 2 3, 3: slot 4 alone differs, and not in its count */
+         "    1    1    2    2\n"
+         "    2    3    3    1\n"
+         "    3    3    4    2\n"},
+    {25, TWO_MEALS}, /* 1, 2, 1 2, 2, 0, 0, 0, 0, 1, 1 */
+    {25, "   10    2    0    4\n" /* the same, tank 2 being ration 4 here and 3 above */
+         "    1    1    1    1\n"
+         "    1    3    3    1\n"
+         "    1    9   10    2\n"
+         "    2    2    4    3\n"},
+};
+
 static void test_compare(void)
 {
-    kiwimound_compared c = kiwimound_compare(LEND(ONE_FEEDING), LEND(LAST_SLOT));
-    EXPECT(c.number == 0 && c.line == 0 && c.same);
-    c = kiwimound_compare(LEND(ONE_FEEDING), LEND(FOUR_SLOTS));
-    EXPECT(c.number == 0 && c.line == 0 && !c.same);
-    c = kiwimound_compare(LEND(HELD), LEND(""));
-    EXPECT(c.number == KIWIMOUND_HELD && c.line == 0 && !c.same);
-    c = kiwimound_compare(LEND(ONE_FEEDING), LEND(BAD_WINDOW));
-    EXPECT(c.number == KIWIMOUND_BAD_WINDOW && c.line == 3 && !c.same);
+    EXPECT(KIWIMOUND_ORDER_NO == 0 && KIWIMOUND_ORDER_SAME == 1);
+    EXPECT(KIWIMOUND_ORDER_BEFORE == 2 && KIWIMOUND_ORDER_AFTER == 3);
+    EXPECT(is_compared(ONE_FEEDING, LAST_SLOT, 0, 0, KIWIMOUND_ORDER_BEFORE));
+    EXPECT(is_compared(LAST_SLOT, ONE_FEEDING, 0, 0, KIWIMOUND_ORDER_AFTER));
+    EXPECT(is_compared(FOUR_SLOTS, ONE_FEEDING, 0, 0, KIWIMOUND_ORDER_AFTER));
+    EXPECT(is_compared(FOUR_SLOTS, FOUR_SLOTS, 0, 0, KIWIMOUND_ORDER_SAME));
+    for (size_t i = 0; i < sizeof ranked / sizeof *ranked; i++)
+        for (size_t j = 0; j < sizeof ranked / sizeof *ranked; j++) {
+            const uint32_t order = ranked[i].rank < ranked[j].rank   ? KIWIMOUND_ORDER_BEFORE
+                                   : ranked[i].rank > ranked[j].rank ? KIWIMOUND_ORDER_AFTER
+                                                                     : KIWIMOUND_ORDER_SAME;
+            EXPECT(is_compared(ranked[i].sheet, ranked[j].sheet, 0, 0, order));
+        }
+}
+
+/* All refusals of the first sheet, 12 too, come before those of the second. */
+static void test_compare_refused(void)
+{
+    const uint32_t no = KIWIMOUND_ORDER_NO;
+    for (size_t i = 0; i < FAULTY_SHEETS; i++) {
+        const char *sheet = faulty_sheets[i].sheet;
+        const uint32_t number = faulty_sheets[i].number, line = faulty_sheets[i].line;
+        EXPECT(is_compared(sheet, FOUR_SLOTS, number, line, no));
+        EXPECT(is_compared(FOUR_SLOTS, sheet, number, line, no));
+        EXPECT(is_compared(sheet, HELD, number, line, no));
+        EXPECT(is_compared(HELD, sheet, KIWIMOUND_HELD, 0, no));
+        for (size_t j = 0; j < FAULTY_SHEETS; j++)
+            EXPECT(is_compared(sheet, faulty_sheets[j].sheet, number, line, no));
+    }
+    EXPECT(is_compared(HELD, FOUR_SLOTS, KIWIMOUND_HELD, 0, no));
+    EXPECT(is_compared(FOUR_SLOTS, HELD, KIWIMOUND_HELD, 0, no));
+    EXPECT(is_compared(HELD, HELD, KIWIMOUND_HELD, 0, no));
+}
+
+/* A sheet of as many slots and rations as there can be, whose ration i has slot 97 - i alone. The buffer's last byte
+ * stays 0. */
+static void write_tanks(char sheet[KIWIMOUND_SHEET_BYTES(KIWIMOUND_MAX_RATIONS) + 1],
+                        const uint32_t tanks[KIWIMOUND_MAX_RATIONS])
+{
+    uint32_t numbers[4 * KIWIMOUND_MAX_RATIONS];
+    for (uint32_t i = 0; i < KIWIMOUND_MAX_RATIONS; i++) {
+        const uint32_t slot = KIWIMOUND_MAX_SLOTS - i;
+        memcpy(numbers + 4 * i, (uint32_t[]){tanks[i], slot, slot, 1}, 4 * sizeof *numbers);
+    }
+    const kiwimound_written w =
+        kiwimound_write(KIWIMOUND_MAX_SLOTS, 1, 1, KIWIMOUND_MAX_RATIONS, numbers, 4 * KIWIMOUND_MAX_RATIONS,
+                        (uint8_t *)sheet, KIWIMOUND_SHEET_BYTES(KIWIMOUND_MAX_RATIONS));
+    EXPECT(w.number == 0 && w.length == KIWIMOUND_SHEET_BYTES(KIWIMOUND_MAX_RATIONS));
+}
+
+/* Each of 64 rations in turn has a greater tank, so that its slot alone differs. If then the next ration, which has the
+ * slot before, has a smaller tank, that slot decides. */
+static void test_compare_every_ration(void)
+{
+    static char sheet[KIWIMOUND_SHEET_BYTES(KIWIMOUND_MAX_RATIONS) + 1], other[sizeof sheet];
+    uint32_t tanks[KIWIMOUND_MAX_RATIONS];
+    for (uint32_t i = 0; i < KIWIMOUND_MAX_RATIONS; i++)
+        tanks[i] = 3 * (i + 1);
+    write_tanks(sheet, tanks);
+    for (uint32_t i = 0; i < KIWIMOUND_MAX_RATIONS; i++) {
+        tanks[i]++;
+        write_tanks(other, tanks);
+        EXPECT(is_compared(sheet, other, 0, 0, KIWIMOUND_ORDER_BEFORE));
+        EXPECT(is_compared(other, sheet, 0, 0, KIWIMOUND_ORDER_AFTER));
+        if (i + 1 < KIWIMOUND_MAX_RATIONS) {
+            tanks[i + 1]--;
+            write_tanks(other, tanks);
+            EXPECT(is_compared(sheet, other, 0, 0, KIWIMOUND_ORDER_AFTER));
+            EXPECT(is_compared(other, sheet, 0, 0, KIWIMOUND_ORDER_BEFORE));
+            tanks[i + 1]++;
+        }
+        tanks[i]--;
+    }
 }
 
 /* Nothing listed: number and line are these, and every byte keeps its value. */
@@ -872,24 +1052,9 @@ static void test_causes(void)
     EXPECT(is_without_causes(HELD, whole - 1, KIWIMOUND_SHORT_BUFFER, 0));
     EXPECT(is_without_causes(HELD, whole, KIWIMOUND_HELD, 0));
     EXPECT(is_without_causes(HELD, sizeof causes, KIWIMOUND_HELD, 0));
-    static const struct {
-        const char *sheet;
-        uint32_t number, line;
-    } faulty[] = {
-        {"", KIWIMOUND_BAD_LENGTH, 0},
-        {"    3    1    1   00\n", KIWIMOUND_BAD_FIELD, 1},
-        {"   97    1    1    0\n", KIWIMOUND_BAD_SLOTS, 1},
-        {"    3    9    1    0\n", KIWIMOUND_BAD_BLOWERS, 1},
-        {"    3    1  201    0\n", KIWIMOUND_BAD_WAKE, 1},
-        {"    3    1    1    1\n", KIWIMOUND_BAD_RATIONS, 1},
-        {"    3    1    1    1\n    0    1    3    1\n", KIWIMOUND_BAD_TANK, 2},
-        {BAD_WINDOW, KIWIMOUND_BAD_WINDOW, 3},
-        {"    3    1    1    1\n    1    1    3    4\n", KIWIMOUND_BAD_VOLUME, 2},
-        {BAD_MEAL, KIWIMOUND_BAD_MEAL, 3},
-    };
-    for (size_t i = 0; i < sizeof faulty / sizeof *faulty; i++) {
-        EXPECT(is_without_causes(faulty[i].sheet, 0, faulty[i].number, faulty[i].line));
-        EXPECT(is_without_causes(faulty[i].sheet, whole, faulty[i].number, faulty[i].line));
+    for (size_t i = 0; i < FAULTY_SHEETS; i++) {
+        EXPECT(is_without_causes(faulty_sheets[i].sheet, 0, faulty_sheets[i].number, faulty_sheets[i].line));
+        EXPECT(is_without_causes(faulty_sheets[i].sheet, whole, faulty_sheets[i].number, faulty_sheets[i].line));
     }
 }
 
@@ -1016,6 +1181,8 @@ int main(void)
     test_halls_refused();
     test_halls_of_practice();
     test_compare();
+    test_compare_refused();
+    test_compare_every_ration();
     test_causes();
     test_causes_cut();
     test_records();

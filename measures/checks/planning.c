@@ -90,7 +90,8 @@ struct outcome check_planning(const uint8_t *bytes, size_t size, uint32_t choice
 
     const uint8_t *second = lend_bytes(SECOND, bytes, size);
     kiwimound_compared c = kiwimound_compare(sheet, size, second, size);
-    if (c.number != number || c.line != r.line || c.same != (number == 0)) fail("a sheet compared with itself");
+    uint32_t order = number ? KIWIMOUND_ORDER_NO : KIWIMOUND_ORDER_SAME;
+    if (c.number != number || c.line != r.line || c.order != order) fail("a sheet compared with itself");
     take_back(SECOND, size);
     take_back(SHEET, size);
     return (struct outcome){number, listed.energy, listed.cents, listed.stretches, listed.feeds, listed.shown, causes};

@@ -309,6 +309,44 @@ fn jagged_sheet_of(draws: &mut Draws, sizes: Sizes) -> Sheet {
     }
 }
 
+/// A sheet of the most slots and blowers that leaves no choice: each window is as long as its
+/// volume. Most slots have eight feedings, and some have fewer.
+pub fn settled_full_sheet(draws: &mut Draws) -> Sheet {
+    let mut windows = Vec::new();
+    for _ in 0..FULL.blowers {
+        // Eight windows cover the day, one after another; not all of them are there.
+        let mut ends: Vec<u32> = (0..7).map(|_| draws.between(1, FULL.slots)).collect();
+        ends.push(FULL.slots);
+        ends.sort();
+        ends.dedup();
+        let mut first = 1;
+        for last in ends {
+            if !draws.one_in(12) {
+                windows.push((first, last));
+            }
+            first = last + 1;
+        }
+    }
+    // Sheet order is not that of the day.
+    for i in (1..windows.len()).rev() {
+        windows.swap(i, draws.index(i + 1));
+    }
+    let tanks = rising_tanks(draws, windows.len());
+    let rations = windows.into_iter().zip(tanks);
+    let rations = rations.map(|((first, last), tank)| Ration {
+        tank,
+        first,
+        last,
+        volume: last - first + 1,
+    });
+    Sheet {
+        slots: FULL.slots,
+        blowers: FULL.blowers,
+        wake: some_wake(draws, FULL.wake),
+        rations: rations.collect(),
+    }
+}
+
 /// A sheet of the most slots and blowers and of the most rations or nearly so:
 /// tight, crowded or random, or with whole-day windows.
 pub fn full_sheet(draws: &mut Draws) -> Sheet {

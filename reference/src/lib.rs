@@ -4,6 +4,7 @@
 pub mod bill;
 pub mod cases;
 pub mod causes;
+pub mod comparison;
 pub mod damage;
 pub mod draws;
 pub mod flow;
@@ -12,6 +13,7 @@ pub mod groups;
 pub mod halls;
 pub mod listing;
 pub mod method;
+pub mod pairs;
 pub mod placing;
 pub mod practice;
 pub mod sets;

@@ -1,5 +1,5 @@
-//! The listing of a plan and of a held sheet, the program's output, the planning
-//! call and the comparison.
+//! The listing of a plan and of a held sheet, the program's output and the planning
+//! call.
 
 use crate::bill;
 use crate::method::{self, Plan};
@@ -121,27 +121,5 @@ pub fn plan(
             (number, 0, text.len())
         }
         None => (number, 0, 0),
-    }
-}
-
-/// The comparison: number, line and whether the plans are the same day, that is D
-/// and every slot's count agree. All checks of the first sheet, 12 included, come
-/// before those of the second.
-pub fn compare(first: &[u8], second: &[u8]) -> (u32, u32, bool) {
-    let counts = |bytes: &[u8]| -> Result<Vec<u32>, Refusal> {
-        let sheet = read(bytes)?;
-        match method::plan(&sheet) {
-            Ok(plan) => Ok(plan.counts),
-            Err(_) => Err(Refusal {
-                number: 12,
-                line: 0,
-            }),
-        }
-    };
-    let both = counts(first).and_then(|one| Ok((one, counts(second)?)));
-    match both {
-        // A list of counts is as long as its day.
-        Ok((one, other)) => (0, 0, one == other),
-        Err(Refusal { number, line }) => (number, line, false),
     }
 }

@@ -2,7 +2,7 @@
 
 mod written;
 
-use reference::listing::{compare, plan, program, PLACING_WORDS, PLAN_BUFFER};
+use reference::listing::{plan, program, PLACING_WORDS, PLAN_BUFFER};
 use reference::method::{self, Plan, State};
 use reference::placing::{bounds, shortfall, shown_set};
 use reference::sheet::read;
@@ -207,19 +207,4 @@ fn a_refusal_changes_no_lent_byte_or_word() {
         assert_eq!(plan(&day, None, Some(&mut other[..0])), (10, 0, 0));
         assert_eq!((one, other), (listing.clone(), placing.clone()));
     }
-}
-
-#[test]
-fn comparisons() {
-    let first = text(FIRST);
-    assert_eq!(compare(&first, &first), (0, 0, true));
-    // Other tanks, blowers and wake cost, and the same counts.
-    let same = text("4 3 9 3 / 7 1 2 2 / 8 1 4 2 / 9 2 3 1");
-    assert_eq!(compare(&first, &same), (0, 0, true));
-    assert_eq!(compare(&text("3 1 1 0"), &text("4 1 1 0")), (0, 0, false));
-    assert_eq!(compare(&first, &text("4 2 2 0")), (0, 0, false));
-    assert_eq!(compare(&text(HELD), b""), (12, 0, false));
-    assert_eq!(compare(b"", &text(HELD)), (1, 0, false));
-    assert_eq!(compare(&first, &text(HELD)), (12, 0, false));
-    assert_eq!(compare(&first, &text("4 2 2 1 / 1 1 2 3")), (9, 2, false));
 }

@@ -2,10 +2,11 @@
 //! enumerating anything. Each answer of the flow is checked by what it shows, a
 //! placing or a set of slots, so these runs would stop at a wrong one.
 
+use reference::comparison::{compare, Order};
 use reference::damage::damaged_sheet;
 use reference::draws::Draws;
-use reference::generate::{any_sheet, held_sheet, tight_sheet, FULL};
-use reference::listing::{compare, program, PLAN_BUFFER};
+use reference::generate::{any_sheet, held_sheet, settled_full_sheet, tight_sheet, FULL};
+use reference::listing::{program, PLAN_BUFFER};
 use reference::method::{self, State};
 use reference::placing::{bounds, shortfall, Question};
 use reference::sheet::{find, read, write, LINE};
@@ -42,7 +43,7 @@ fn tight_sheets_are_planned() {
         assert!(Question::of_day(&sheet).is_sound(&plan.placing));
         let bytes = sheet.text();
         assert_eq!(bounds(&bytes, &plan.counts, &plan.counts), (0, 0, true));
-        assert_eq!(compare(&bytes, &bytes), (0, 0, true));
+        assert_eq!(compare(&bytes, &bytes), (0, 0, Order::Same));
         assert!(program(&bytes).len() <= PLAN_BUFFER);
 
         // The stretches of each blower cover the day and alternate.
@@ -59,6 +60,21 @@ fn tight_sheets_are_planned() {
                 let busy = pair.iter().filter(|s| s.state == State::Busy);
                 assert_eq!(busy.count(), 1);
             }
+        }
+    }
+}
+
+/// Such a sheet leaves no choice: a ration is fed in every slot of its window.
+#[test]
+fn settled_sheets_are_planned_as_they_say() {
+    let mut draws = Draws::new(9);
+    for _ in 0..30 {
+        let sheet = settled_full_sheet(&mut draws);
+        assert_eq!(read(&sheet.text()), Ok(sheet.clone()));
+        let plan = method::plan(&sheet).expect("eight windows at most in a slot");
+        for (ration, row) in sheet.rations.iter().zip(&plan.placing) {
+            let window = (1..=sheet.slots).map(|t| ration.window_holds(t));
+            assert!(row.iter().copied().eq(window));
         }
     }
 }

@@ -3,8 +3,9 @@
 
 mod written;
 
+use reference::comparison::{compare, Order};
 use reference::draws::Draws;
-use reference::listing::{compare, plan, program, PLACING_WORDS, PLAN_BUFFER};
+use reference::listing::{plan, program, PLACING_WORDS, PLAN_BUFFER};
 use reference::placing::{bounds, shortfall};
 use reference::sheet::{find, line_text, read, write, Refusal, LINE};
 use written::text;
@@ -144,8 +145,8 @@ fn every_call_refuses_by_13() {
     assert_eq!(bounds(&day, &[0; 4], &[1; 4]), (13, 3, false));
     assert_eq!(bounds(&day, &[], &[]), (13, 3, false));
     let good = text("4 1 1 1 / 5 1 2 2");
-    assert_eq!(compare(&good, &day), (13, 3, false));
-    assert_eq!(compare(&day, b""), (13, 3, false));
+    assert_eq!(compare(&good, &day), (13, 3, Order::No));
+    assert_eq!(compare(&day, b""), (13, 3, Order::No));
 
     let (mut listing, mut placing) = (vec![7; PLAN_BUFFER], vec![9; PLACING_WORDS]);
     for lent in [3, PLAN_BUFFER] {

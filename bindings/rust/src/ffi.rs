@@ -61,7 +61,7 @@ pub struct Halls {
 pub struct Compared {
     pub number: u32,
     pub line: u32,
-    pub same: bool,
+    pub order: u32,
 }
 
 #[repr(C)]

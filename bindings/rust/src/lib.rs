@@ -35,4 +35,4 @@ pub use causes::{Cause, Causes, Ending};
 pub use halls::{plan_halls, HallsRefusal};
 pub use plan::{Feeding, Held, Plan, State, Stretch};
 pub use refusal::{Fault, Refusal};
-pub use sheet::{Bounds, Comparison, Head, Ration, Sheet};
+pub use sheet::{Bounds, Head, Ration, Sheet};

@@ -3,6 +3,7 @@ use crate::causes::Causes;
 use crate::ffi;
 use crate::plan::{Held, Plan};
 use crate::refusal::{Fault, Refusal};
+use std::cmp::Ordering;
 
 /// The numbers of a sheet's head line but the number of rations.
 #[derive(Clone, Copy, Debug, PartialEq, Eq, Hash)]
@@ -36,17 +37,6 @@ pub struct Bounds {
     pub low: u32,
     /// At most; above the blowers it means the blowers.
     pub high: u32,
-}
-
-/// What a comparison of two sheets finds.
-#[derive(Clone, Copy, Debug, PartialEq, Eq, Hash)]
-pub enum Comparison {
-    /// As many slots, and as many feedings in each.
-    Same,
-    /// Two plans that differ in this.
-    Different,
-    /// One of the two has no plan.
-    Held,
 }
 
 /// A feed sheet that was accepted: its bytes pass the checks 1 to 9 and 13.
@@ -248,13 +238,39 @@ impl Sheet {
         ffi::bounds(&self.bytes, &lows, &highs).yes
     }
 
-    /// Plans this sheet and another, and compares the days.
-    pub fn compare(&self, other: &Sheet) -> Comparison {
+    /// Plans this sheet and another, and gives the order of the two plans: `Less` if this sheet's plan comes before the
+    /// other's. There is none if one of the two sheets is held.
+    ///
+    /// The plan with fewer slots comes first. Of two with as many, the first slot in which the lists of fed tanks
+    /// differ decides, those of [`Plan::tanks_in`]: the list with the smaller tank at the first place that differs
+    /// comes first; where there is no such place, the one that ends first. Plans are `Equal` if they have as many slots
+    /// and the same list in each. Nothing else is compared, such as energy and bill; `==` compares the sheets instead.
+    ///
+    /// This is a total order of plans, so that sheets can be sorted by it. Each comparison plans both sheets.
+    ///
+    /// ```
+    /// use kiwimound::Sheet;
+    /// use std::cmp::Ordering;
+    ///
+    /// // One feeding each, in slot 3: of tank 1, and of tank 7.
+    /// let sheet = Sheet::read("    3    1    1    1\n    1    1    3    1\n")?;
+    /// let other = Sheet::read("    3    1    1    1\n    7    3    3    1\n")?;
+    /// assert_eq!(sheet.compare(&other), Some(Ordering::Less));
+    /// // A shorter window and a second blower, and the same plan.
+    /// let other = Sheet::read("    3    2    1    1\n    1    2    3    1\n")?;
+    /// assert_eq!(sheet.compare(&other), Some(Ordering::Equal));
+    /// # Ok::<(), Box<dyn std::error::Error>>(())
+    /// ```
+    pub fn compare(&self, other: &Sheet) -> Option<Ordering> {
         let compared = ffi::compare(&self.bytes, &other.bytes);
-        match (compared.number, compared.same) {
-            (0, true) => Comparison::Same,
-            (0, false) => Comparison::Different,
-            _ => Comparison::Held,
+        match (compared.number, compared.order) {
+            (0, 1) => Some(Ordering::Equal),
+            (0, 2) => Some(Ordering::Less),
+            (0, 3) => Some(Ordering::Greater),
+            (12, 0) => None,
+            (number, order) => {
+                unreachable!("number {number} with order {order} for accepted sheets")
+            }
         }
     }
 }

@@ -1,8 +1,7 @@
 //! The days of document 01 ("Days at the edge"), days with several meals for a tank and days for the placing, for the
-//! bill and for causes, through the safe interface.
-use kiwimound::{
-    Bounds, Cause, Comparison, Ending, Fault, Feeding, Head, Held, Ration, Refusal, Sheet, State,
-};
+//! bill, for the order of plans and for causes, through the safe interface.
+use kiwimound::{Bounds, Cause, Ending, Fault, Feeding, Head, Held, Ration, Refusal, Sheet, State};
+use std::cmp::Ordering;
 
 /// A sheet from its head numbers and its rations, by the library's writer.
 fn sheet(slots: u32, blowers: u32, wake: u32, rations: &[[u32; 4]]) -> Sheet {
@@ -323,13 +322,133 @@ fn under_bounds() {
     assert!(!held().fits(|_| Bounds { low: 0, high: 8 }));
 }
 
+/// Plans from the first to the last, each as the tanks that it feeds, slot by slot.
+const PLANS: [&[&[u32]]; 25] = [
+    &[&[]],
+    &[&[1, 2, 3, 4, 5, 6, 7]], // it ends before the next
+    &[&[1, 2, 3, 4, 5, 6, 7, 8]],
+    &[&[1, 2, 3, 4, 5, 6, 7, 9]],
+    &[&[4]], // fewer tanks, but the lists above begin with a smaller one
+    &[&[4, 9]],
+    &[&[5]],
+    &[&[], &[]],
+    &[&[1], &[3]],
+    &[&[3], &[1]], // in slot 2 it would come first
+    &[&[5], &[6]], // ration 1 in slot 1, where the plan above has ration 2
+    &[&[9], &[9]],
+    &[&[], &[], &[]], // D alone puts it after all above
+    &[&[], &[], &[1]],
+    &[&[], &[], &[7]], // the counts of the plan above
+    &[&[1], &[], &[]],
+    &[&[1], &[], &[2]],
+    &[&[1, 3], &[2, 3], &[3]],
+    &[&[2], &[], &[]],
+    &[&[2, 3], &[1, 3], &[3]],
+    &[&[], &[], &[1], &[]], // D alone differs from feeding tank 1 in slot 3 of three
+    &[&[1], &[1], &[2], &[2]],
+    &[&[1], &[1], &[2, 3], &[2]], // in slot 3 the list above ends first
+    &[&[1], &[1], &[2, 3], &[3]], // slot 4 alone differs, and not in its count
+    &[&[1], &[2], &[1, 2], &[2], &[], &[], &[], &[], &[1], &[1]],
+];
+
+/// A sheet with this plan: each feeding is a meal with a window of one slot, so that nothing is left to choose.
+fn sheet_of(plan: &[&[u32]]) -> Sheet {
+    let mut rations = Vec::new();
+    for (slot, tanks) in (1..).zip(plan) {
+        rations.extend(tanks.iter().map(|&tank| [tank, slot, slot, 1]));
+    }
+    rations.sort();
+    let blowers = plan.iter().map(|tanks| tanks.len()).max().unwrap().max(1);
+    sheet(plan.len() as u32, blowers as u32, 0, &rations)
+}
+
+/// The tanks that a sheet's plan feeds, slot by slot.
+fn fed(sheet: &Sheet) -> Vec<Vec<u32>> {
+    let plan = sheet.plan().unwrap();
+    let slots = 1..=sheet.head().slots;
+    slots.map(|slot| plan.tanks_in(slot).collect()).collect()
+}
+
 #[test]
 fn compared() {
     let last_slot = sheet(3, 1, 200, &[[7, 3, 3, 1]]);
-    assert_eq!(one_feeding().compare(&last_slot), Comparison::Same);
-    assert_eq!(one_feeding().compare(&four_slots()), Comparison::Different);
-    assert_eq!(one_feeding().compare(&held()), Comparison::Held);
-    assert_eq!(held().compare(&one_feeding()), Comparison::Held);
+    assert_eq!(one_feeding().compare(&last_slot), Some(Ordering::Less));
+    assert_eq!(last_slot.compare(&one_feeding()), Some(Ordering::Greater));
+    for (i, plan) in PLANS.iter().enumerate() {
+        let day = sheet_of(plan);
+        assert_eq!(fed(&day), *plan);
+        for (j, other) in PLANS.iter().enumerate() {
+            let order = day.compare(&sheet_of(other));
+            assert_eq!(order, Some(i.cmp(&j)), "{plan:?} and {other:?}");
+        }
+    }
+}
+
+/// Sheets with other windows, meals, blowers and wake costs have plans of the list above.
+#[test]
+fn same_from_other_sheets() {
+    let days = [
+        (6, sheet(1, 8, 200, &[[5, 1, 1, 1]])),
+        (11, sheet(2, 1, 0, &[[9, 1, 2, 2]])),
+        (13, one_feeding()),
+        (13, sheet(3, 2, 200, &[[1, 2, 3, 1]])),
+        (
+            17,
+            sheet(3, 2, 1, &[[1, 1, 2, 1], [2, 1, 2, 1], [3, 1, 3, 3]]),
+        ),
+        (22, four_slots()),
+        (24, two_meals()),
+    ];
+    for (place, day) in days {
+        assert_eq!(fed(&day), PLANS[place]);
+        for (i, plan) in PLANS.iter().enumerate() {
+            assert_eq!(day.compare(&sheet_of(plan)), Some(place.cmp(&i)));
+            assert_eq!(sheet_of(plan).compare(&day), Some(i.cmp(&place)));
+        }
+    }
+    // the energy is no part of it
+    let costly = sheet(3, 1, 200, &[[1, 1, 3, 1]]);
+    assert_ne!(costly.plan(), one_feeding().plan());
+    assert_eq!(costly.compare(&one_feeding()), Some(Ordering::Equal));
+}
+
+#[test]
+fn no_order_with_a_held_sheet() {
+    for plan in PLANS {
+        assert_eq!(sheet_of(plan).compare(&held()), None);
+        assert_eq!(held().compare(&sheet_of(plan)), None);
+    }
+    assert_eq!(held().compare(&held()), None);
+}
+
+/// The order is that of the slots and then of the lists, as they compare in Rust; it is total, and sorts sheets.
+#[test]
+fn sorted_by_their_plans() {
+    let practice = (0..).map(Sheet::practice).filter(Sheet::can_be_planned);
+    let mut days = vec![full_day(), two_meals(), four_slots(), one_feeding()];
+    days.extend(PLANS.iter().rev().map(|plan| sheet_of(plan)));
+    days.extend(practice.take(8));
+    let order_of = |a: &Sheet, b: &Sheet| a.compare(b).unwrap();
+    let orders_of = |a: &Sheet| days.iter().map(|b| order_of(a, b)).collect();
+    let orders: Vec<Vec<Ordering>> = days.iter().map(orders_of).collect();
+    let plan_of = |day: &Sheet| (day.head().slots, fed(day));
+    let plans: Vec<_> = days.iter().map(plan_of).collect();
+    for a in 0..days.len() {
+        for b in 0..days.len() {
+            assert_eq!(orders[a][b], plans[a].cmp(&plans[b]));
+            assert_eq!(orders[a][b], orders[b][a].reverse());
+            for c in 0..days.len() {
+                // a not after b, and b not after c
+                if orders[a][b].is_le() && orders[b][c].is_le() {
+                    assert_eq!(orders[a][c], orders[a][b].then(orders[b][c]));
+                }
+            }
+        }
+    }
+    let mut sorted = days.clone();
+    sorted.sort_by(order_of);
+    days.sort_by_key(plan_of);
+    assert_eq!(sorted, days);
 }
 
 /// The endings of a day whose listing is not cut; it has a line for each, and one for each of its slots.

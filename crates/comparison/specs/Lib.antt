@@ -1,2 +1,7 @@
--- The steps of the functions within the crate
-pub mod CompareSteps
+-- Definitions
+pub mod Comparison
+pub mod OnListings
+-- The theorems a reader looks for
+pub mod Theorems
+-- Laws
+pub mod ListingLaws

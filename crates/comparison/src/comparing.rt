@@ -1,58 +1,28 @@
-// The comparison of two sheets' days.
+// The comparison of two sheets' plans.
+use crate::Compared;
 use checks::refusals::NO_PLACING;
-use planning::Compared;
+use plan_order::Order;
+use plan_order::order_number;
+use plan_order::order_of_days;
 use planning::day_of;
-use sheet::Reading;
-use stretches::Day;
 ghost use mathlib.Core.Path.{_≡_};
-ghost use mathlib.Core.Bool.{false};
-ghost use Prim.Native.Nat.{_≤_};
-ghost use lib.ListN.{length, take};
-ghost use Rattle.common.specs.Lists.{same};
-ghost use Rattle.planning.specs.Planning.{comparedOf};
-ghost use Rattle.planning.specs.Contracts.{SomeDay, DaysCompared};
+ghost use Rattle.plan_order.specs.declared.Order.the-variants.{No};
+ghost use Rattle.plan_order.specs.Order.{orderNumber};
+ghost use Rattle.comparison.specs.Comparison.{comparedOf};
 
-// A refusal's answer: not the same.
+// A refusal's answer: no.
 fn refuse_comparison(number: u32, line: u32) -> Compared
-    ensures { λ r. ⌜ r ≡ record { number = number; line = line; same = false } ⌝ }
+    ensures { λ r. ⌜ r ≡ record { number = number; line = line; order = orderNumber No } ⌝ }
 {
     Compared {
         number,
         line,
-        same: false,
+        order: order_number(Order::No),
     }
 }
 
-// Whether two days have the same counts in their first slots.
-fn same_counts(slots: usize, one: &[u8; 96], other: &[u8; 96]) -> bool
-    requires { ⌜ (slots ≤ 96) × (length (now one) ≡ 96) × (length (now other) ≡ 96) ⌝ }
-    ensures { λ r. ⌜ «r» ≡ same (take slots (now (one .entry))) (take slots (now (other .entry))) ⌝ }
-{
-    let mut t = 0;
-    while t < slots {
-        if one[t] != other[t] {
-            return false;
-        }
-        t += 1;
-    }
-    true
-}
-
-// Whether two planned days are the same: as many slots, and the same count in each.
-fn same_days(first: Reading, one: Day, second: Reading, other: Day) -> bool
-    requires { ⌜ SomeDay first one × SomeDay second other ⌝ }
-    ensures { λ r. ⌜ DaysCompared first one second other «r» ⌝ }
-{
-    if first.slots != second.slots {
-        return false;
-    }
-    let counts = one.counts;
-    let others = other.counts;
-    same_counts(first.slots as usize, &counts, &others)
-}
-
-// Compares the days of two sheets: number 0 and whether they are the same, or the number and the line of the first refusal, with all checks of the first sheet
-// before those of the second.
+// Compares the plans of two sheets: number 0 and which comes first, or that they are the same; or the number and the
+// line of the first refusal, with all checks of the first sheet before those of the second.
 pub fn compare(a: &[u8], b: &[u8]) -> Compared
     ensures { λ r. ⌜ r ≡ comparedOf (now (a .entry)) (now (b .entry)) ⌝ }
 {
@@ -72,9 +42,17 @@ pub fn compare(a: &[u8], b: &[u8]) -> Compared
     if other.held {
         return refuse_comparison(NO_PLACING, 0);
     }
+    let order = order_of_days(
+        first.slots,
+        &first.numbers,
+        &one.fed,
+        second.slots,
+        &second.numbers,
+        &other.fed,
+    );
     Compared {
         number: 0,
         line: 0,
-        same: same_days(first, one, second, other),
+        order: order_number(order),
     }
 }

@@ -1,34 +1,30 @@
 -- Why a plan's feedings and lines are those of the method, from the law files of the layers below. Assumes nothing.
 use mathlib.Core.Path.{_≡_, refl, sym, ap, ap₂, _∙_, subst}
-use mathlib.Core.Logic.{_↔_}
 use mathlib.Core.Bool.{Bool, true, false}
 use mathlib.Core.List.{List, []}
 use Prim.Native.Nat.{ℕ, _≤_}
-use lib.ListN.{length}
-use Rattle.common.specs.Lists.{same}
 use Rattle.checks.specs.declared.Refusal.{Refusal}
-use Rattle.checks.specs.Sheet.{Sheet, sheetOf}
-use Rattle.checks.specs.Checks.{firstRefusal, faults}
+use Rattle.checks.specs.Sheet.{Sheet}
+use Rattle.checks.specs.Checks.{firstRefusal}
 use Rattle.schedules.specs.Schedules.{Schedule, load}
 use Rattle.schedules.specs.Demands.{demandsOf, fullHigh}
 use Rattle.method.specs.Method.{dayBounds, boundsUnder, settleAll, loads}
 use Rattle.method.specs.SettledRuns.{settledRuns, boundsAtTurn}
 use Rattle.method.specs.Worded.{settleAllWorded, runsWorded, boundsWorded}
 use Rattle.method.specs.Feedings.{Greedy, chosen}
-use Rattle.method.specs.FeedingLaws.{chosen-greedy, same-eq, same-self}
+use Rattle.method.specs.FeedingLaws.{chosen-greedy}
 use Rattle.method.specs.Theorems.{settled-as-worded, runs-as-worded, intervals-are-settled, loads-feasible}
 use Rattle.energy.specs.Energy.{starts, energy}
 use Rattle.plan_lines.specs.Lines.{stretchLines, feedLines, planLines}
 use Rattle.planning.specs.Problem.{Problem, alone, left, ProblemInRange, canBePlanned, settledCounts, feedingsOf, countsOf, planWith, listingOf, wordsFor}
-use Rattle.planning.specs.Planning.{planChecks, listedAnswer, listingAfter, placingAfter, compareRefusal, sameDay}
+use Rattle.planning.specs.Planning.{planChecks, listedAnswer, listingAfter, placingAfter}
 use Rattle.planning.specs.ReadListing.{written, tanks, linesOf, stretchesOn}
 use Rattle.planning.specs.StretchLineLaws.{stretchesOn-lines}
 use Rattle.planning.specs.WrittenLaws.{number-planned, placing-written, writes-planned, stretchPart-plan, feedPart-plan, head-plan, placing-on}
-use Rattle.planning.specs.ProblemLaws.{windows-left, room-below, may-planned, possible, settled-low-is-high, length-settledCounts, rest-load, feedings-whole, counts-whole, length-countsOf}
+use Rattle.planning.specs.ProblemLaws.{windows-left, room-below, may-planned, possible, settled-low-is-high, length-settledCounts, rest-load, feedings-whole, counts-whole}
 use Rattle.planning.specs.AloneLaws.{left-alone, room-alone}
 use Rattle.demands.specs.Outcome.{placingIn}
 use Rattle.demands.specs.OutcomeLaws.{feedings-are, lines-are, marked-feedings, written-listing}
-use Rattle.demands.specs.AnswerLaws.{bytes-in-range}
 use Rattle.demands.specs.ByMethod.{HasPlacing, settled, runsOf, ChosenByMethod, ByMethod}
 
 -- A sheet planned alone: as document 01 words the method ------------------------------------------------
@@ -51,7 +47,7 @@ module _ (s : Sheet) where
 
 module _ (p : Problem) (g : ProblemInRange p) (can : canBePlanned p ≡ true) where
   -- the counts, as the calls' definitions have them
-  settled-counts : settled p .low ≡ settledCounts p
+  pub settled-counts : settled p .low ≡ settledCounts p
   unfolding settledCounts loads
   settled-counts = refl
 
@@ -116,39 +112,3 @@ module _ {own : List Refusal} (formed : own ≡ []) (p : Problem) (g : ProblemIn
   pub marked-by-method : (placing : List ℕ) → ChosenByMethod p (placingIn (p .sheet) (placingAfter r (wordsFor p) placing))
   marked-by-method placing =
       feedings-chosen p g can _ (marked-feedings p g can (placingAfter r (wordsFor p) placing) placing (placing-written r (wordsFor p) placing (writes-planned (r .number) number-is)))
-
--- two sheets that can be planned
-module _ (a b : List ℕ) (f : faults a ≡ []) (x : HasPlacing (alone (sheetOf a))) (g : faults b ≡ []) (y : HasPlacing (alone (sheetOf b))) where
-  abbrev p : Problem
-  p = alone (sheetOf a)
-
-  abbrev q : Problem
-  q = alone (sheetOf b)
-
-  can-p : canBePlanned p ≡ true
-  can-p = may-planned p (bytes-in-range a f) (x .0) (x .1)
-
-  can-q : canBePlanned q ≡ true
-  can-q = may-planned q (bytes-in-range b g) (y .0) (y .1)
-
-  pub both-planned : compareRefusal a b ≡ record { number = 0; line = 0 }
-  unfolding compareRefusal firstRefusal
-  both-planned = rw (f, can-p, g, can-q)
-
-  counts-p : settled p .low ≡ countsOf p
-  counts-p = settled-counts p (bytes-in-range a f) can-p ∙ sym (counts-whole p (bytes-in-range a f) can-p refl)
-
-  counts-q : settled q .low ≡ countsOf q
-  counts-q = settled-counts q (bytes-in-range b g) can-q ∙ sym (counts-whole q (bytes-in-range b g) can-q refl)
-
-  same-counts : countsOf p ≡ countsOf q → p .sheet .slots ≡ q .sheet .slots
-  same-counts e = sym (length-countsOf p (bytes-in-range a f) can-p) ∙ ap length e ∙ length-countsOf q (bytes-in-range b g) can-q
-
-  pub same-day : (sameDay p q ≡ true) ↔ ((p .sheet .slots ≡ q .sheet .slots) × (settled p .low ≡ settled q .low))
-  unfolding sameDay
-  same-day = (
-    λ e. let c = same-eq (countsOf p) (countsOf q) e in (same-counts c, counts-p ∙ c ∙ sym counts-q),
-    λ h.
-        let c : countsOf p ≡ countsOf q = sym counts-p ∙ h .1 ∙ counts-q in
-        ap (λ xs. same xs (countsOf q)) c ∙ same-self (countsOf q),
-  )

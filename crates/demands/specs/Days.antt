@@ -1,5 +1,5 @@
 -- The days of 'Days at the edge' as one table: a question about a sheet's text, beside what document 01 says, and
--- requests 101 to 108 where they change that or say more. `answer` gives the answer of the definitions; a plan's
+-- requests 101 to 109 where they change that or say more. `answer` gives the answer of the definitions; a plan's
 -- numbers are read off the program's whole output. Assumes nothing.
 use mathlib.Core.Path.{_≡_, refl}
 use mathlib.Core.Bool.{Bool, false}
@@ -18,10 +18,11 @@ use Rattle.plan_lines.specs.Lines.{Line, line}
 use Rattle.planning.specs.Problem.{alone, countsOf, wordsFor}
 use Rattle.planning.specs.ReadListing.{written, linesOf, headLine, stretchPart, feedPart, billOn}
 use Rattle.program.specs.Program.{output, explanation, seedOutput}
+use Rattle.comparison.specs.Comparison.{comparedOf}
 use Rattle.halls.specs.declared.HallsPlanned.{HallsPlanned}
 use Rattle.halls.specs.Halls.{Hall, lent, outcomeOf, hallsAnswer}
 use Rattle.demands.specs.Halls.{hallIn, answerIn, busyIn}
-use Rattle.demands.specs.Meanings.{listings, placings, causes, practices, halls}
+use Rattle.demands.specs.Meanings.{listings, placings, comparisons, causes, practices, halls}
 
 -- Questions and answers -------------------------------------------------------------
 
@@ -44,6 +45,8 @@ pub data Question : Type 0 where
   billFor : Sheet → Question
   -- the shortfall of the marked slots
   shortfallFor : Sheet → (marks : List ℕ) → Question
+  -- number, line and order of two sheets compared
+  orderFor : (first second : Sheet) → Question
   -- the bounds question
   boundsFor : Sheet → (lows highs : List ℕ) → Question
   -- what the program `why` writes
@@ -94,6 +97,7 @@ answer (placingFor s) = numbers (wordsFor (alone (sheetOf (text s))))
 answer (billFor s) = lines (billOn (outputLines s) ∷ [])
 answer (shortfallFor s marks) = let r = shortfallOf (text s) marks in signed (r .number) (r .line) (r .shortfall)
 answer (boundsFor s lows highs) = let r = boundsOf (text s) lows highs in isYes (r .number) (r .line) (r .yes)
+answer (orderFor s t) = let r = comparedOf (text s) (text t) in numbers (r .number ∷ r .line ∷ r .order ∷ [])
 answer (causesFor s) = bytes (explanation (text s))
 answer (practiceFor input) = bytes (seedOutput (text input))
 answer (linesFor s tank) = bytes (lookUp (text s) tank)
@@ -381,3 +385,76 @@ hallDays =
 pub hall-days-as-stated : AsStated hallDays
 unfolding halls
 hall-days-as-stated = refl
+
+-- Comparisons: request 109 ------------------------------------------------------------
+
+-- one tank in the only slot, and another one; a wake cost; two tanks
+abbrev tankOne : Sheet
+tankOne = "    1    2    0    1" ∷ "    1    1    1    1" ∷ []
+
+abbrev tankTwo : Sheet
+tankTwo = "    1    2    0    1" ∷ "    2    1    1    1" ∷ []
+
+abbrev tankOneWaking : Sheet
+tankOneWaking = "    1    1    5    1" ∷ "    1    1    1    1" ∷ []
+
+abbrev bothTanks : Sheet
+bothTanks = "    1    2    0    2" ∷ "    1    1    1    1" ∷ "    2    1    1    1" ∷ []
+
+abbrev oneAndThree : Sheet
+oneAndThree = "    1    2    0    2" ∷ "    1    1    1    1" ∷ "    3    1    1    1" ∷ []
+
+abbrev tankNine : Sheet
+tankNine = "    1    1    0    1" ∷ "    9    1    1    1" ∷ []
+
+abbrev tankTen : Sheet
+tankTen = "    1    1    0    1" ∷ "   10    1    1    1" ∷ []
+
+-- two slots: tank 1 in the first or in the last; tank 2 first and tank 1 last, and the other way; tank 3 first
+abbrev oneFirst : Sheet
+oneFirst = "    2    1    0    1" ∷ "    1    1    1    1" ∷ []
+
+abbrev oneLast : Sheet
+oneLast = "    2    1    0    1" ∷ "    1    2    2    1" ∷ []
+
+abbrev twoThenOne : Sheet
+twoThenOne = "    2    1    0    2" ∷ "    1    2    2    1" ∷ "    2    1    1    1" ∷ []
+
+abbrev oneThenTwo : Sheet
+oneThenTwo = "    2    1    0    2" ∷ "    1    1    1    1" ∷ "    2    2    2    1" ∷ []
+
+abbrev threeFirst : Sheet
+threeFirst = "    2    1    0    1" ∷ "    3    1    1    1" ∷ []
+
+-- The first two sheets have the same counts, and other tanks: the base had them as the same day. Another wake cost and
+-- another number of blowers leave the plan the same. A list that ends first is smaller, the empty list too. Smaller D
+-- comes first, whatever is fed. Where two slots differ the first decides, and tanks are compared, not their places on
+-- the sheet. A refused sheet has the answer no, and the first sheet's own refusal, 12 too, comes before the second's.
+abbrev pub comparisonDays : List Day
+comparisonDays =
+    day (countsFor tankOne) (numbers (1 ∷ []))
+    ∷ day (countsFor tankTwo) (numbers (1 ∷ []))
+    ∷ day (orderFor tankOne tankTwo) (numbers (0 ∷ 0 ∷ 2 ∷ []))
+    ∷ day (orderFor tankTwo tankOne) (numbers (0 ∷ 0 ∷ 3 ∷ []))
+    ∷ day (orderFor tankOne tankOneWaking) (numbers (0 ∷ 0 ∷ 1 ∷ []))
+    ∷ day (orderFor tankOne bothTanks) (numbers (0 ∷ 0 ∷ 2 ∷ []))
+    ∷ day (orderFor bothTanks tankTwo) (numbers (0 ∷ 0 ∷ 2 ∷ []))
+    ∷ day (orderFor oneLast oneFirst) (numbers (0 ∷ 0 ∷ 2 ∷ []))
+    ∷ day (orderFor tankTwo oneFirst) (numbers (0 ∷ 0 ∷ 2 ∷ []))
+    ∷ day (orderFor ("    2    1    0    0" ∷ []) ("    1    1    0    0" ∷ [])) (numbers (0 ∷ 0 ∷ 3 ∷ []))
+    ∷ day (orderFor twoThenOne oneThenTwo) (numbers (0 ∷ 0 ∷ 3 ∷ []))
+    ∷ day (orderFor threeFirst twoThenOne) (numbers (0 ∷ 0 ∷ 3 ∷ []))
+    ∷ day (orderFor oneThenTwo oneThenTwo) (numbers (0 ∷ 0 ∷ 1 ∷ []))
+    ∷ day (orderFor oneFirst oneThenTwo) (numbers (0 ∷ 0 ∷ 2 ∷ []))
+    ∷ day (orderFor bothTanks oneAndThree) (numbers (0 ∷ 0 ∷ 2 ∷ []))
+    ∷ day (orderFor tankNine tankTen) (numbers (0 ∷ 0 ∷ 2 ∷ []))
+    ∷ day (orderFor held []) (numbers (12 ∷ 0 ∷ 0 ∷ []))
+    ∷ day (orderFor [] held) (numbers (1 ∷ 0 ∷ 0 ∷ []))
+    ∷ day (orderFor tankOne held) (numbers (12 ∷ 0 ∷ 0 ∷ []))
+    ∷ day (orderFor tankOne ("   97    1    0    0" ∷ [])) (numbers (3 ∷ 1 ∷ 0 ∷ []))
+    ∷ day (orderFor held held) (numbers (12 ∷ 0 ∷ 0 ∷ []))
+    ∷ []
+
+pub comparison-days-as-stated : AsStated comparisonDays
+unfolding comparisons
+comparison-days-as-stated = refl

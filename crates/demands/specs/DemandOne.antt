@@ -39,8 +39,11 @@ use Rattle.questions.specs.Calls.{marksRefusal, sheetShortfall, shortfallFor, s
 use Rattle.marks.specs.Marks.{marksFault}
 use Rattle.plan_lines.specs.Text.{heldText, refusalText}
 use Rattle.planning.specs.Problem.{alone, canBePlanned, shownSet, heldListing, listingOf, wordsFor}
-use Rattle.planning.specs.Planning.{heldFaults, planChecks, planRefusal, shortPlan, shortPlacing, listedAnswer, unlistedAnswer, listingAfter, placingAfter, compareRefusal, sameDay, comparedOf, planRefusalFor}
+use Rattle.planning.specs.Planning.{heldFaults, planChecks, planRefusal, shortPlan, shortPlacing, listedAnswer, unlistedAnswer, listingAfter, placingAfter, planRefusalFor}
 use Rattle.planning.specs.AloneLaws.{held-alone}
+use Rattle.plan_order.specs.declared.Order.the-variants.{No}
+use Rattle.plan_order.specs.Order.{orderNumber}
+use Rattle.comparison.specs.Comparison.{compareRefusal, comparedOf}
 use Rattle.causes.specs.CauseCalls.{endingsOf, shortCauses, causesAnswer, causesAfter}
 use Rattle.halls.specs.Halls.{Hall, four, hallsFaults, nothing, outcomeOf, hallsAnswer}
 use Rattle.program.specs.Program.{explanationOf}
@@ -52,6 +55,7 @@ use Rattle.demands.specs.Answers.{FirstOf, NotZero, ShortfallOf, YesFor,
 use Rattle.demands.specs.Outcome.{AloneIs}
 use Rattle.demands.specs.Halls.{hallIn, answerIn, problemIn, HallIs, HallAnswer}
 use Rattle.demands.specs.AnswerLaws.{alone-is, first-of, numbered-one, numbered-compared, first-alone, buffer-alone, placing-alone, both-alone, first-asked, zero-unless, no-unless, shortfall-is, yes-for, sheet-buffer, room-sheet, write-room, read-first, read-nothing, records-checked, program-text}
+use Rattle.demands.specs.ComparisonLaws.{no-order}
 use Rattle.demands.specs.CausesLaws.{causes-listed, causes-buffer, causes-room, why-front, why-causes, why-refused}
 use Rattle.demands.specs.PracticeLaws.{practice-taken, practice-refused}
 use Rattle.demands.specs.HallsLaws.{first-halls, halls-kept, halls-answered, halls-earlier, halls-without, hall-alone, hall-is}
@@ -105,10 +109,10 @@ pub record DemandOne : Type 0 where
       × PlanBuffer p (a .number) (a .length) listing (listingAfter r (listingOf p) listing) × PlacingBuffer p (a .number) placing (placingAfter r (wordsFor p) placing)
   pub plan-number : (b : List ℕ) → let a = unlistedAnswer (planRefusal b false) in
       FirstOf (planChecks (faults b) false (alone (sheetOf b))) (a .number) (a .line) × (a .length ≡ 0)
-  -- the first sheet is checked to the end, 12 too, before the second
+  -- the first sheet is checked to the end, 12 too, before the second; the answer is no where one of them is refused
   pub compare : (a b : List ℕ) → let r = comparedOf a b in
       FirstOf (comparisonChecks (faults a) (not (canBePlanned (alone (sheetOf a)))) (faults b) (not (canBePlanned (alone (sheetOf b))))) (r .number) (r .line)
-      × (NotZero (r .number) → r .same ≡ false)
+      × (NotZero (r .number) → r .order ≡ orderNumber No)
   -- Halls: 14 before all sheets; then each hall has the checks of a planning call, under its own highs ------------
 
   -- 32 and 4 are the paper's numbers. With 14, and for a hall that is not there: zeros, and buffers as they were. A
@@ -236,7 +240,7 @@ demand-one =
       compare = λ a b.
           let p = alone (sheetOf a) in
           let q = alone (sheetOf b) in
-          (first-of (faults a ++ (heldFaults p ++ (faults b ++ heldFaults q))) (numbered-compared a b p q), no-unless (compareRefusal a b .number) (sameDay p q));
+          (first-of (faults a ++ (heldFaults p ++ (faults b ++ heldFaults q))) (numbered-compared a b p q), no-order a b);
       write-rations = λ slots blowers wake rations out.
           let s = recordSheet slots blowers wake rations in
           let h = records-checked s .numbered in

@@ -24,9 +24,10 @@ use Rattle.theory.specs.Sums.{sum}
 use Rattle.practice.specs.Practice.{practiceSheet, practiceRefusal, seedInput}
 use Rattle.plan_lines.specs.Sizes.{planBytes, placingWords, causesBytes}
 use Rattle.planning.specs.Problem.{alone, MayPlace, listingOf, wordsFor}
-use Rattle.planning.specs.Planning.{planRefusalFor, planRefusal, shortPlan, shortPlacing, listedAnswer, unlistedAnswer, listingAfter, placingAfter, comparedOf}
+use Rattle.planning.specs.Planning.{planRefusalFor, planRefusal, shortPlan, shortPlacing, listedAnswer, unlistedAnswer, listingAfter, placingAfter}
 use Rattle.planning.specs.ReadListing.{written, linesOf, headLine, stretchPart}
 use Rattle.planning.specs.CallAnswers.{room-plan, room-placing, neither}
+use Rattle.comparison.specs.Comparison.{comparedOf}
 use Rattle.causes.specs.CauseCalls.{endingsOf, shortCauses, causesAnswer, causesAfter}
 use Rattle.causes.specs.ReadCauses.{entriesIn, writtenCauses}
 use Rattle.causes.specs.CauseAnswers.{room-causes}

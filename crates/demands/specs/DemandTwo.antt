@@ -7,9 +7,9 @@
 -- that it marked, and of reading and writing. A field is named by its call; ByMethod.antt says what is asked of a plan.
 -- A sheet is well-formed where none of the checks of the sheet alone applies: 1 to 9 and 13, and of records 3 to 9 and
 -- 13. Assumes nothing.
-use mathlib.Core.Path.{_≡_, refl, sym, ap, subst, _∙_}
+use mathlib.Core.Path.{_≡_, refl, sym, subst, _∙_}
 use mathlib.Core.Logic.{_↔_}
-use mathlib.Core.Bool.{true, false, _||_}
+use mathlib.Core.Bool.{false, _||_}
 use mathlib.Core.List.{List, []}
 use Prim.Native.Nat.{ℕ, suc, _*_, _≤_, _<_}
 use lib.ListN.{length, take}
@@ -24,10 +24,15 @@ use Rattle.method.specs.Method.{dayBounds}
 use Rattle.method.specs.Worded.{settleAllWorded, runsWorded, boundsWorded}
 use Rattle.plan_lines.specs.Sizes.{planBytes, placingWords, causesBytes}
 use Rattle.planning.specs.Problem.{alone, listingOf, wordsFor}
-use Rattle.planning.specs.Planning.{planRefusalFor, planRefusal, shortPlan, shortPlacing, listedAnswer, unlistedAnswer, listingAfter, placingAfter, comparedOf}
+use Rattle.planning.specs.Planning.{planRefusalFor, planRefusal, shortPlan, shortPlacing, listedAnswer, unlistedAnswer, listingAfter, placingAfter}
 use Rattle.planning.specs.ReadListing.{written, linesOf}
 use Rattle.planning.specs.CallAnswers.{room-plan, room-placing, neither}
 use Rattle.planning.specs.ProblemLaws.{may-planned}
+use Rattle.plan_order.specs.declared.Order.the-variants.{Same, Before, After}
+use Rattle.plan_order.specs.Order.{orderNumber}
+use Rattle.plan_order.specs.TotalOrder.{TotalOrder}
+use Rattle.comparison.specs.Comparison.{comparedOf}
+use Rattle.comparison.specs.OnListings.{slotsAndTanks, orderOfListings}
 use Rattle.causes.specs.CauseCalls.{endingsOf, shortCauses, causesAnswer, causesAfter}
 use Rattle.causes.specs.ReadCauses.{entriesIn, writtenCauses}
 use Rattle.causes.specs.CauseAnswers.{room-causes}
@@ -39,10 +44,12 @@ use Rattle.records.specs.Records.{recordSheet, recordFaults}
 use Rattle.demands.specs.Answers.{programText, whyText, practiceText, ValuesRead}
 use Rattle.demands.specs.Outcome.{AloneIs, placingIn}
 use Rattle.demands.specs.ByMethod.{HasPlacing, settled, runsOf, ChosenByMethod, ByMethod}
+use Rattle.demands.specs.Comparison.{PlannedSheet, Answered, linesPlanned}
 use Rattle.demands.specs.Causes.{CausesByMethod}
 use Rattle.demands.specs.Halls.{hallIn, answerIn, problemIn, HallIs}
 use Rattle.demands.specs.AnswerLaws.{bytes-in-range, records-in-range, alone-is}
-use Rattle.demands.specs.ByMethodLaws.{number-is, listed-by-method, marked-by-method, both-planned, same-day, as-worded, runs-worded}
+use Rattle.demands.specs.ByMethodLaws.{number-is, listed-by-method, marked-by-method, as-worded, runs-worded}
+use Rattle.demands.specs.ComparisonLaws.{comparison-number, comparison-listed, comparison-ordered, comparison-counts}
 use Rattle.demands.specs.CausesLaws.{by-method-causes, call-by-method, why-front, why-causes}
 use Rattle.demands.specs.PracticeLaws.{of-practice, practice-number, practice-written, practice-taken}
 use Rattle.demands.specs.HallsLaws.{halls-by-method, hall-is}
@@ -62,10 +69,19 @@ pub record DemandTwo : Type 0 where
       let r = planRefusal b (shortPlacing placing) in
       (unlistedAnswer r .number ≡ 0) × ChosenByMethod p (placingIn (sheetOf b) (placingAfter r (wordsFor p) placing))
   pub plan-number : (b : List ℕ) → faults b ≡ [] → HasPlacing (alone (sheetOf b)) → unlistedAnswer (planRefusal b false) .number ≡ 0
-  -- the same day where D and every slot's count agree
-  pub compare : (a b : List ℕ) → let p = alone (sheetOf a) in let q = alone (sheetOf b) in
-      faults a ≡ [] → HasPlacing p → faults b ≡ [] → HasPlacing q →
-      (comparedOf a b .number ≡ 0) × ((comparedOf a b .same ≡ true) ↔ ((p .sheet .slots ≡ q .sheet .slots) × (settled p .low ≡ settled q .low)))
+  -- a comparison says which plan comes first, by D and the feed lines that `plan` writes for the two sheets; it says
+  -- same exactly where D agrees, and slot and tank of every feed line
+  pub compare : (a b : PlannedSheet) → let s = sheetOf (a .bytes) in let t = sheetOf (b .bytes) in let r = comparedOf (a .bytes) (b .bytes) in
+      (r .number ≡ 0)
+      × ((listing other : List ℕ) → planBytes ≤ length listing → planBytes ≤ length other →
+      let ls = linesPlanned (a .bytes) listing in let ks = linesPlanned (b .bytes) other in
+      (r .order ≡ orderNumber (orderOfListings (s .slots) ls (t .slots) ks))
+      × ((r .order ≡ orderNumber Same) ↔ ((s .slots ≡ t .slots) × (slotsAndTanks ls ≡ slotsAndTanks ks))))
+  -- what it says is a total order on the sheets that are planned
+  pub compare-order : TotalOrder PlannedSheet (Answered Before) (Answered Same) (Answered After)
+  -- where it says same, the method gives each slot the same count
+  pub compare-counts : (a b : PlannedSheet) → let p = alone (sheetOf (a .bytes)) in let q = alone (sheetOf (b .bytes)) in
+      Answered Same a b → (p .sheet .slots ≡ q .sheet .slots) × (settled p .low ≡ settled q .low)
   -- the causes listed are those of the stretches that the method ends, in its order, under the bounds that it has then
   pub causes : (b out : List ℕ) → let p = alone (sheetOf b) in faults b ≡ [] → HasPlacing p → causesBytes ≤ length out →
       let r = planRefusal b (shortCauses out) in let a = causesAnswer r (endingsOf p) in
@@ -156,7 +172,7 @@ program-by-method b formed has =
     (listed-by-method formed _ (bytes-in-range b formed) has false refl [])
 
 pub demand-two : DemandTwo
-unfolding hallsAnswer hallProblem planRefusal listedAnswer unlistedAnswer causesAnswer comparedOf
+unfolding hallsAnswer hallProblem planRefusal listedAnswer unlistedAnswer causesAnswer
 demand-two =
     record {
       plan = plan-by-method;
@@ -170,9 +186,9 @@ demand-two =
           let e = room-placing placing k in
           (number-is formed _ g has (shortPlacing placing) e, marked-by-method formed _ g has (shortPlacing placing) e placing);
       plan-number = λ b formed has. number-is formed _ (bytes-in-range b formed) has false refl;
-      compare = λ a b f p g q.
-          let z = both-planned a b f p g q in
-          (ap (λ r. r .number) z, rw z (same-day a b f p g q));
+      compare = λ a b. (comparison-number a b, comparison-listed a b);
+      compare-order = comparison-ordered;
+      compare-counts = comparison-counts;
       causes = λ b out formed has l.
           let g = bytes-in-range b formed in
           let e = room-causes out l in

@@ -10,6 +10,7 @@ pub mod Days
 pub mod Answers
 pub mod Outcome
 pub mod ByMethod
+pub mod Comparison
 pub mod Causes
 pub mod Halls
 -- Laws

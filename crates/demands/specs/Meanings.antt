@@ -16,6 +16,8 @@ use Rattle.planning.specs.Planning.{planRefusal, shortPlan, shortPlacing, write
 use Rattle.schedules.specs.Rest.{restDemands, restHigh, together, noFeedings}
 use Rattle.planning.specs.Problem.{left, room, canBePlanned, settledCounts, feedingsOf, countsOf, shownSet, planWith, listingOf, wordsFor}
 use Rattle.planning.specs.ReadListing.{lineIn, linesIn, linesOf, headLine, slotSet, stretchPart, feedPart, billOn, ofMeal, placingOn}
+use Rattle.plan_order.specs.Order.{orderOfNumbers, orderOfLists, tanksIn, orderOfPlans}
+use Rattle.comparison.specs.Comparison.{compareRefusal, orderOf, comparedOf}
 use Rattle.schedules.specs.Causes.{excessSet, someAbove, crossed, lowest, obstacle}
 use Rattle.method.specs.Keeping.{stretches}
 use Rattle.method.specs.Endings.{inOrder, endings}
@@ -42,6 +44,11 @@ listings = tt
 unfoldable pub placings : Unit {0}
 unfolding listings binary wordOf wordsOf wordsFor
 placings = tt
+
+-- from two sheets to the order of their plans
+unfoldable pub comparisons : Unit {0}
+unfolding listings orderOfNumbers orderOfLists tanksIn orderOfPlans compareRefusal orderOf comparedOf
+comparisons = tt
 
 -- and to the causes' listing
 unfoldable pub causes : Unit {0}

@@ -1,9 +1,9 @@
-// Two sheets compared: `C number line same`.
+// Two sheets compared: `C number line order`.
 pub fn answer(first: &[u8], second: &[u8]) {
     let r = comparison::compare(first, second);
     io::write_all(1, b"C");
     cases::word(r.number);
     cases::word(r.line);
-    cases::flag(r.same);
+    cases::word(r.order);
     cases::end_line();
 }

@@ -4,7 +4,7 @@
 // A payload has two parts, the first as long as the case's number says; the second is a sheet.
 // Operation P plans with a plan buffer, G with a placing buffer, B with both and N with none: the first part holds the
 // buffers' lengths, one a line, that of a placing buffer in words.
-// Operation C compares the sheet that is the first part with the second.
+// Operation C compares the plan of the sheet that is the first part with that of the second.
 mod answers;
 mod both_case;
 mod compare_case;

@@ -23,7 +23,7 @@ use Rattle.listing.specs.Opening.{Written}
 use Rattle.planning.specs.declared.Planned.{Planned}
 use Rattle.planning.specs.declared.PlannedDay.{PlannedDay}
 use Rattle.planning.specs.Problem.{Problem, wholeDay, alone, left, room, ProblemInRange, canBePlanned, feedingsOf, countsOf, shownSet, listingOf, wordsFor}
-use Rattle.planning.specs.Planning.{planChecks, planRefusalFor, shortPlan, shortPlacing, listedAnswer, unlistedAnswer, listingAfter, placingAfter, busyAfter, sameDay}
+use Rattle.planning.specs.Planning.{planChecks, planRefusalFor, shortPlan, shortPlacing, listedAnswer, unlistedAnswer, listingAfter, placingAfter, busyAfter}
 
 -- The day of a problem ------------------------------------------------------------------------
 
@@ -76,11 +76,6 @@ DayFoundUnder r H d =
 -- the listing of whatever problem it is the day of was written, and n is its length
 abbrev pub DayListed : Reading → Day → (old new : List ℕ) → ℕ → Type 0
 DayListed r d old new n = (p : Problem) → DayOf p r d → Written (listingOf p) old new n
-
--- whether two planned days are the same, of whatever problems they are the days of
-abbrev pub DaysCompared : (r : Reading) (d : Day) (r′ : Reading) (d′ : Day) → Bool → Type 0
-DaysCompared r d r′ d′ x =
-    (p q : Problem) → DayOf p r d → DayOf q r′ d′ → d .held ≡ false → d′ .held ≡ false → x ≡ sameDay p q
 
 -- Planning a sheet that was read, whatever checks were made of it --------------------------------
 

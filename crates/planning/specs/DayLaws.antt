@@ -104,7 +104,8 @@ module _ {p : Problem} {r : Reading} {d : Day} (h : DayOf p r d) where
     fed-is : d .fed ≡ wordsOf (feedingsOf p)
     fed-is = words-of words (length-placing s (feedingsOf p) sound) (placing-rows s (feedingsOf p) sound)
 
-    holds : Holds (s .slots) (length (s .jobs)) (d .fed) (feedingsOf p)
+    -- its words hold the feedings
+    pub holds : Holds (s .slots) (length (s .jobs)) (d .fed) (feedingsOf p)
     holds =
         subst (λ n. Holds (s .slots) n (d .fed) (feedingsOf p)) (length-placing s (feedingsOf p) sound)
         (words-hold (s .slots) (feedingsOf p) (placing-rows s (feedingsOf p) sound) (d .fed)

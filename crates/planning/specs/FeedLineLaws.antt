@@ -67,25 +67,29 @@ parts-before c (suc n) =
 
 -- All lines -------------------------------------------------------------------------
 
+-- by slot
+pub lines-inSlot : (slots : ℕ) (tanks : List ℕ) (p : Schedule) (t : ℕ) → t < slots → inSlot (suc t) (feedLines slots tanks p) ≡ slotLines t (rationRows tanks p)
+unfolding inSlot feedLines
+lines-inSlot slots tanks p t l =
+    keep-flatMap (λ u. slotLines u (rationRows tanks p)) (λ l. eqb (l .a) (suc t)) (range 0 slots)
+    ∙ flatMap-range-one (λ u. keep (λ l. eqb (l .a) (suc t)) (slotLines u (rationRows tanks p))) t other 0 slots (omega arith) (omega arith)
+    ∙ same
+  where
+    other : (u : ℕ) → (u ≡ t → ⊥) → keep (λ l. eqb (l .a) (suc t)) (slotLines u (rationRows tanks p)) ≡ []
+    other u n =
+        keep-none (λ l. eqb (l .a) (suc t)) (slotLines u (rationRows tanks p))
+        (λ l m. ne-eqb (l .a) (suc t) (λ e. n (omega (arith, of-slot u (rationRows tanks p) l m))))
+
+    same : keep (λ l. eqb (l .a) (suc t)) (slotLines t (rationRows tanks p)) ≡ slotLines t (rationRows tanks p)
+    same = keep-all (λ l. eqb (l .a) (suc t)) (slotLines t (rationRows tanks p)) (λ l m. eq-eqb (l .a) (suc t) (of-slot t (rationRows tanks p) l m))
+
 module _ (slots : ℕ) (tanks : List ℕ) (p : Schedule) (long : length tanks ≡ length p) (rows : Rows slots p) where
   abbrev lines : List Line
   lines = feedLines slots tanks p
 
-  -- by slot
   in-slot : (t : ℕ) → t < slots → inSlot (suc t) lines ≡ linesFrom t 1 (fedIn t (rationRows tanks p))
-  unfolding inSlot feedLines slotLines
-  in-slot t l =
-      keep-flatMap (λ u. slotLines u (rationRows tanks p)) (λ l. eqb (l .a) (suc t)) (range 0 slots)
-      ∙ flatMap-range-one (λ u. keep (λ l. eqb (l .a) (suc t)) (slotLines u (rationRows tanks p))) t other 0 slots (omega arith) (omega arith)
-      ∙ same
-    where
-      other : (u : ℕ) → (u ≡ t → ⊥) → keep (λ l. eqb (l .a) (suc t)) (slotLines u (rationRows tanks p)) ≡ []
-      other u n =
-          keep-none (λ l. eqb (l .a) (suc t)) (slotLines u (rationRows tanks p))
-          (λ l m. ne-eqb (l .a) (suc t) (λ e. n (omega (arith, of-slot u (rationRows tanks p) l m))))
-
-      same : keep (λ l. eqb (l .a) (suc t)) (slotLines t (rationRows tanks p)) ≡ slotLines t (rationRows tanks p)
-      same = keep-all (λ l. eqb (l .a) (suc t)) (slotLines t (rationRows tanks p)) (λ l m. eq-eqb (l .a) (suc t) (of-slot t (rationRows tanks p) l m))
+  unfolding slotLines
+  in-slot = lines-inSlot slots tanks p
 
   pub blowers-inSlot : (t : ℕ) → t < slots → map (λ l. l .b) (inSlot (suc t) lines) ≡ range 1 (getD (load slots p) t 0)
   blowers-inSlot t l =

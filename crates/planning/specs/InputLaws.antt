@@ -50,7 +50,7 @@ pub record Holds (slots n : ℕ) (words : List ℕ) (p : Schedule) : Type 0 wher
   pub fed : (j t : ℕ) → j < n → t < slots → has (getD p j []) t ≡ eqb (bit (getD words t 0) j) 1
   pub few : (t : ℕ) → t < slots → getD words t 0 < 2 ^ n
 
-placingOf-holds : (slots n : ℕ) (words : List ℕ) (p : Schedule) → slots ≤ length words → Holds slots n words p → placingOf slots n words ≡ p
+pub placingOf-holds : (slots n : ℕ) (words : List ℕ) (p : Schedule) → slots ≤ length words → Holds slots n words p → placingOf slots n words ≡ p
 unfolding placingOf
 placingOf-holds slots n words p there h = ext-getD [] (map (rowOf slots words) (range 0 n)) p (length-map-range (rowOf slots words) n ∙ sym (h .rations)) (λ j l. row j (rw (length-map-range (rowOf slots words) n) at l))
   where

@@ -1,21 +1,19 @@
 -- The planning calls: what each answers, and what it leaves in the buffers lent to it. Definitions only. Assumes
 -- nothing.
-use mathlib.Core.Bool.{Bool, _&&_, _||_, not, cond}
+use mathlib.Core.Bool.{Bool, _||_, not, cond}
 use mathlib.Core.List.{List}
 use Prim.Native.Nat.{ℕ}
 use lib.Dec.{ltb, eqb}
 use lib.ListN.{length, replicate}
-use Rattle.common.specs.Lists.{same}
 use Rattle.checks.specs.declared.Refusal.{Refusal}
 use Rattle.checks.specs.Limits.{maxSlots}
 use Rattle.checks.specs.Refusals.{noPlacing}
 use Rattle.checks.specs.Sheet.{sheetOf, Sheet}
 use Rattle.checks.specs.Checks.{fault, firstRefusal, faults}
-use Rattle.checks.specs.CallChecks.{planningChecks, comparisonChecks}
+use Rattle.checks.specs.CallChecks.{planningChecks}
 use Rattle.common.specs.Buffers.{over, padded}
 use Rattle.plan_lines.specs.Sizes.{planBytes, placingWords}
 use Rattle.planning.specs.declared.Planned.{Planned}
-use Rattle.planning.specs.declared.Compared.{Compared}
 use Rattle.planning.specs.Problem.{Problem, alone, canBePlanned, countsOf}
 
 -- Refusals ------------------------------------------------------------------------
@@ -68,20 +66,3 @@ placingAfter r words old = cond (writes (r .number)) (over words old) old
 -- refused, 12 too
 unfoldable pub busyAfter : Refusal → Problem → List ℕ
 busyAfter r p = cond (eqb (r .number) 0) (padded maxSlots (countsOf p)) (replicate maxSlots 0)
-
--- Comparison ------------------------------------------------------------------
-
--- all checks of the first sheet, 12 included, before those of the second
-unfoldable pub compareRefusal : List ℕ → List ℕ → Refusal
-compareRefusal a b =
-    firstRefusal
-    (comparisonChecks (faults a) (not (canBePlanned (alone (sheetOf a)))) (faults b) (not (canBePlanned (alone (sheetOf b)))))
-
--- the same day: D and every slot's count agree
-unfoldable pub sameDay : Problem → Problem → Bool
-sameDay p q = same (countsOf p) (countsOf q)
-
-unfoldable pub comparedOf : List ℕ → List ℕ → Compared
-comparedOf a b =
-    let r : Refusal = compareRefusal a b in
-    record { number = r .number; line = r .line; same = eqb (r .number) 0 && sameDay (alone (sheetOf a)) (alone (sheetOf b)) }

@@ -97,9 +97,13 @@ planWith s q =
       placing = q;
     }
 
--- the listing of the plan
+-- the plan
+abbrev pub planFor : Problem → Plan
+planFor p = planWith (p .sheet) (feedingsOf p)
+
+-- its listing
 abbrev pub planListing : Problem → List ℕ
-planListing p = planText (planWith (p .sheet) (feedingsOf p))
+planListing p = planText (planFor p)
 
 -- the listing of a problem held for want of blowers: Q, what is forced into it, and the sum of the room over it
 abbrev pub heldListing : Problem → List ℕ

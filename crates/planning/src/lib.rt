@@ -31,11 +31,3 @@ pub struct PlannedDay {
     pub planned: Planned,
     pub counts: [u8; 96],
 }
-
-// What a comparison answers (crate `comparison`): whether the two sheets have the same day; no on a refusal.
-#[repr(C)]
-pub struct Compared {
-    pub number: u32,
-    pub line: u32,
-    pub same: bool,
-}

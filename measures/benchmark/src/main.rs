@@ -3,6 +3,7 @@
 //! Tables are in Markdown.
 
 mod causes;
+mod comparison;
 mod engines;
 mod growth;
 mod halls;
@@ -22,15 +23,17 @@ const USAGE: &str = "usage: benchmark planning SHEETS SLOW-SHEETS [LEMON-PROGRAM
        benchmark questions SHEETS SLOW-SHEETS
        benchmark growth SHEETS PLOT
        benchmark once library|plain|placing|both|causes KIND SHEETS
+       benchmark compare next|itself KIND SHEETS
        benchmark shortfall library|plain|by-slot KIND SHEETS
        benchmark practice practice|write|read RATIONS SEEDS
        benchmark halls LIMIT|alone KIND GROUPS
 SLOW-SHEETS is how many of the sheets the slower implementations get, and SLOW-GROUPS how many of
 the groups of four. PLOT is the file that the plot is written to. `once` plans each sheet once, by
-the library into a plan buffer, a placing buffer or both, or lists its causes, `shortfall` asks the
-shortfall of each once, `practice` makes, writes or reads the practice sheets of the first SEEDS
-seeds that draw RATIONS rations, and `halls` with a KIND plans each group once, as halls behind
-LIMIT or one sheet after another, for instructions to be counted.";
+the library into a plan buffer, a placing buffer or both, or lists its causes, `compare` compares
+each once with the next or with itself, `shortfall` asks the shortfall of each once, `practice`
+makes, writes or reads the practice sheets of the first SEEDS seeds that draw RATIONS rations, and
+`halls` with a KIND plans each group once, as halls behind LIMIT or one sheet after another, for
+instructions to be counted.";
 
 fn answer(words: &[&str]) -> Option<Result<(), String>> {
     Some(match *words {
@@ -50,6 +53,10 @@ fn answer(words: &[&str]) -> Option<Result<(), String>> {
         ["once", engine, kind, count] => {
             let engine = engines::named(engine)?;
             engines::once(engine, sheets::Kind::named(kind)?, count.parse().ok()?);
+            Ok(())
+        }
+        ["compare", with, kind, count] => {
+            comparison::once(with, sheets::Kind::named(kind)?, count.parse().ok()?)?;
             Ok(())
         }
         ["shortfall", program, kind, count] => {

@@ -2,6 +2,7 @@
 
 use crate::values::Values;
 use reference::causes::{self, CAUSES_BUFFER};
+use reference::comparison::{fed_tanks, order_of_plans, Order, Tanks};
 use reference::listing::{held_text, plan_text, PLACING_WORDS, PLAN_BUFFER};
 use reference::sheet::{read, write, Refusal, Sheet, LINE};
 use reference::{method, placing};
@@ -19,6 +20,8 @@ pub struct Expected {
     pub placing: Vec<u64>,
     /// Each slot's count, of a planned sheet.
     pub counts: Option<Vec<u32>>,
+    /// Each slot's list of fed tanks, of a planned sheet.
+    pub tanks: Option<Tanks>,
 }
 
 impl Expected {
@@ -48,6 +51,7 @@ impl Expected {
             listing: Vec::new(),
             placing: vec![0; PLACING_WORDS],
             counts: None,
+            tanks: None,
         };
         let Ok(sheet) = &expected.sheet else {
             return expected;
@@ -60,6 +64,7 @@ impl Expected {
                         *word |= u64::from(fed) << i;
                     }
                 }
+                expected.tanks = Some(fed_tanks(&plan));
                 expected.counts = Some(plan.counts);
             }
             Err(shown) => {
@@ -112,14 +117,15 @@ impl Expected {
         self.sheet.as_ref().is_ok_and(full)
     }
 
-    /// Number, line and answer of a comparison with another sheet.
-    pub fn compared(&self, other: &Expected) -> (u32, u32, bool) {
+    /// Number, line and order of a comparison with another sheet.
+    pub fn compared(&self, other: &Expected) -> (u32, u32, u32) {
         for (number, line) in [self, other].map(|e| e.planning(None, None)) {
             if number != 0 {
-                return (number, line, false);
+                return (number, line, Order::No as u32);
             }
         }
-        (0, 0, self.counts == other.counts)
+        let [one, other] = [self, other].map(|e| e.tanks.as_ref().expect("a planned sheet"));
+        (0, 0, order_of_plans(one, other) as u32)
     }
 
     /// Number, line and shortfall of the marked slots.

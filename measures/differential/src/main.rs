@@ -1,6 +1,7 @@
 //! The static libraries against the reference implementation: every call, with buffers of
 //! every length that matters, on many sheets of all kinds and on groups of halls; the practice
-//! sheets of all seeds of a range, with their plans; and groups of halls alone.
+//! sheets of all seeds of a range, with their plans; groups of halls alone; and pairs of sheets
+//! that are compared.
 
 mod calls;
 mod causes;
@@ -9,6 +10,7 @@ mod expected;
 mod form;
 mod halls;
 mod lent;
+mod pairs;
 mod planning;
 mod practice;
 mod questions;
@@ -112,8 +114,9 @@ fn compare(count: usize, from: usize) -> Checked {
 const USAGE: &str = "usage: differential [COUNT [FROM]]
        differential practice [FIRST LAST]
        differential halls [COUNT [FROM]]
+       differential pairs [COUNT [FROM]]
 FIRST and LAST are seeds of 32 bits, 0 and 99999 if none are given. COUNT is how many sheets, a
-million if none is given, or groups of halls, 200000.";
+million if none is given, groups of halls, 200000, or pairs of sheets, 100000.";
 
 /// Runs what the words ask for, if they ask for anything.
 fn run(words: &[&str]) -> Option<Checked> {
@@ -124,6 +127,9 @@ fn run(words: &[&str]) -> Option<Checked> {
         ["halls"] => halls::run(200_000, 0),
         ["halls", count] => halls::run(count.parse().ok()?, 0),
         ["halls", count, from] => halls::run(count.parse().ok()?, from.parse().ok()?),
+        ["pairs"] => pairs::run(100_000, 0),
+        ["pairs", count] => pairs::run(count.parse().ok()?, 0),
+        ["pairs", count, from] => pairs::run(count.parse().ok()?, from.parse().ok()?),
         [count] => compare(count.parse().ok()?, 0),
         [count, from] => compare(count.parse().ok()?, from.parse().ok()?),
         _ => return None,

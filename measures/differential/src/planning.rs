@@ -26,10 +26,11 @@ pub fn check_sheet(e: &Expected, draws: &mut Draws, b: &mut Buffers) -> Checked 
     same("plan_number", numbers, (number, line, 0))
 }
 
+/// A sheet with itself, and two sheets in both orders.
 pub fn check_compare(e: &Expected, second: &Expected) -> Checked {
     for (one, other) in [(e, e), (e, second), (second, e)] {
         let answer = library::compare(&one.bytes, &other.bytes);
-        let values = (answer.number, answer.line, answer.same);
+        let values = (answer.number, answer.line, answer.order);
         same("compare", values, one.compared(other))?;
     }
     Ok(())

@@ -78,7 +78,7 @@ pub fn plan_number(sheet: &[u8]) -> Planned {
     unsafe { foreign::kiwimound_plan_number(sheet.as_ptr(), sheet.len()) }
 }
 
-/// Compares the days of two sheets.
+/// Compares the plans of two sheets.
 pub fn compare(one: &[u8], other: &[u8]) -> Compared {
     unsafe { foreign::kiwimound_compare(one.as_ptr(), one.len(), other.as_ptr(), other.len()) }
 }

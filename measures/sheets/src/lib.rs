@@ -1,10 +1,12 @@
 //! The sheets that times are measured on: every one of the stated sizes, and of a
 //! kind that says whether it is planned or held. Those that answers are compared on
-//! are in `mixture`, and in `groups` where several halls are planned together.
+//! are in `mixture`, in `groups` where several halls are planned together, and in `pairs`
+//! where two are compared with each other.
 
 pub mod groups;
 pub mod mixture;
 pub mod pack;
+pub mod pairs;
 
 use reference::draws::Draws;
 use reference::placing::shown_set;

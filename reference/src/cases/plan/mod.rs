@@ -4,10 +4,12 @@
 //! the sheet. A plan buffer's length is in bytes, a placing buffer's in words.
 
 mod comparing;
+mod orders;
 mod planning;
 
 use super::{digest, digest_words, lent_buffer, lent_words, numbers_of, text_of, Case};
-use crate::listing::{compare, plan};
+use crate::comparison::compare;
+use crate::listing::plan;
 
 /// All cases of this gate program.
 pub fn cases() -> Vec<Case> {
@@ -22,12 +24,12 @@ pub fn output(cases: &[Case]) -> Vec<u8> {
 }
 
 /// The operation, number, line and length, then `D` and the digest of each whole
-/// buffer; of a comparison `C`, number, line and 1 if the days are the same.
+/// buffer; of a comparison `C`, number, line and the order's number.
 fn answer(case: &Case) -> String {
     let (first, sheet) = case.parts();
     if case.operation == b'C' {
-        let (number, line, same) = compare(first, sheet);
-        return format!("C {number} {line} {}\n", u32::from(same));
+        let (number, line, order) = compare(first, sheet);
+        return format!("C {number} {line} {}\n", order as u32);
     }
     let (bytes, words) = match (case.operation, &numbers_of(first)[..]) {
         (b'P', &[bytes]) => (Some(bytes), None),
@@ -71,7 +73,7 @@ mod tests {
 
     #[test]
     fn the_stream_holds_the_cases() {
-        assert_streamed(&cases(), 1_000_000);
+        assert_streamed(&cases(), 1_200_000);
     }
 
     /// Where a case asks for more, the gate program answers nothing.
@@ -108,8 +110,10 @@ mod tests {
             assert!(answers.iter().any(|a| a.starts_with(&start)), "{start}");
         }
         let count = |text| answers.iter().filter(|&a| a == text).count();
-        assert!(count("C 0 0 0\n") > 50);
-        assert!(count("C 0 0 1\n") > 50);
+        assert_eq!(count("C 0 0 0\n"), 0);
+        for text in ["C 0 0 1\n", "C 0 0 2\n", "C 0 0 3\n", "C 12 0 0\n"] {
+            assert!(count(text) > 100, "{text}");
+        }
     }
 
     #[test]

@@ -1,0 +1,3 @@
+-- The steps of the loops
+pub mod SlotSteps
+pub mod DaySteps
