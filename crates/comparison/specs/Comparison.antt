@@ -19,7 +19,8 @@ compareRefusal a b =
     firstRefusal
     (comparisonChecks (faults a) (not (canBePlanned (alone (sheetOf a)))) (faults b) (not (canBePlanned (alone (sheetOf b)))))
 
--- no where a sheet is refused, by whatever number; otherwise which of the two plans comes first, or that they are the same
+-- no where a sheet is refused, by whatever number; otherwise which of the two plans comes first, or that they are the
+-- same
 unfoldable pub orderOf : List ℕ → List ℕ → Order
 orderOf a b =
     cond (eqb (compareRefusal a b .number) 0) (orderOfPlans (planFor (alone (sheetOf a))) (planFor (alone (sheetOf b)))) No

@@ -1,16 +1,20 @@
 -- The layer's theorems: the order of plans is a total order, and two plans are the same exactly where D and, for each
 -- slot, the list of fed tanks agree. Assumes nothing.
-use mathlib.Core.Path.{_≡_, sym, ap, _∙_}
+use mathlib.Core.Path.{_≡_, refl, sym, ap, _∙_}
 use mathlib.Core.Logic.{_↔_}
 use Prim.Native.Nat.{ℕ, _<_}
 use native.Mathlib.Omega.{arith}
 use lib.ListN.{getD}
 use Rattle.common.specs.ListLaws.{getD-map-range}
 use Rattle.plan_lines.specs.Lines.{Plan}
-use Rattle.plan_order.specs.declared.Order.the-variants.{Same, Before, After}
-use Rattle.plan_order.specs.Order.{orderOfTanks, tanksIn, orderOfPlans}
+use Rattle.plan_order.specs.declared.Order.the-variants.{No, Same, Before, After}
+use Rattle.plan_order.specs.Order.{orderNumber, orderOfTanks, tanksIn, orderOfPlans}
 use Rattle.plan_order.specs.TotalOrder.{TotalOrder}
 use Rattle.plan_order.specs.OrderLaws.{numbers-ordered, lists-ordered, places-same, dayOf, days-ordered, total}
+
+-- The number of each answer, as callers have it.
+pub answer-numbers : (orderNumber No ≡ 0) × (orderNumber Same ≡ 1) × (orderNumber Before ≡ 2) × (orderNumber After ≡ 3)
+answer-numbers = (refl, refl, refl, refl)
 
 -- A total order on plans.
 pub plans-ordered : TotalOrder Plan (λ p q. orderOfPlans p q ≡ Before) (λ p q. orderOfPlans p q ≡ Same) (λ p q. orderOfPlans p q ≡ After)

@@ -1,4 +1,4 @@
--- What a total order is, of which a comparison says before, same or after. Definitions only. Assumes nothing.
+-- What it is for before, same and after to be a total order. Definitions only. Assumes nothing.
 use mathlib.Core.Logic.{_⊎_, _↔_}
 
 -- one of three, and no two of them
@@ -11,6 +11,6 @@ pub record TotalOrder (A : Type 0) (before same after : A → A → Type 0) : Ty
   pub transitive : (x y z : A) → before x y → before y z → before x z
   -- one comes before the other exactly where the other comes after it
   pub turned : (x y : A) → before x y ↔ after y x
-  -- the same exactly when neither comes first
   pub same-transitive : (x y z : A) → same x y → same y z → same x z
+  -- the same exactly when neither comes first
   pub same-where-neither : (x y : A) → same x y ↔ ((¬ before x y) × (¬ before y x))
