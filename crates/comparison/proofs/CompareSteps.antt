@@ -22,7 +22,6 @@ use Rattle.sheet.specs.OwnCheckLaws.{bytes-read, refused-before, accepted-befor
 use Rattle.stretches.specs.declared.Day.{Day}
 use Rattle.plan_lines.specs.Inputs.{tankAt}
 use Rattle.plan_lines.specs.SetBits.{setBits-past}
-use Rattle.plan_order.specs.declared.Order.{Order}
 use Rattle.plan_order.specs.declared.Order.the-variants.{No}
 use Rattle.plan_order.specs.Order.{orderNumber, orderOfNumbers, thenBy, orderOfSlots, tanksIn, fedTanks, orderOfPlans}
 use Rattle.plan_order.specs.Contracts.{tanksOfWord, tanksOfWords, CanOrder}

@@ -16,7 +16,7 @@ use Rattle.method.specs.FeedingLaws.{chosen-greedy}
 use Rattle.method.specs.Theorems.{settled-as-worded, runs-as-worded, intervals-are-settled, loads-feasible}
 use Rattle.energy.specs.Energy.{starts, energy}
 use Rattle.plan_lines.specs.Lines.{stretchLines, feedLines, planLines}
-use Rattle.planning.specs.Problem.{Problem, alone, left, ProblemInRange, canBePlanned, settledCounts, feedingsOf, countsOf, planWith, listingOf, wordsFor}
+use Rattle.planning.specs.Problem.{Problem, alone, left, ProblemInRange, canBePlanned, settledCounts, feedingsOf, countsOf, planFor, listingOf, wordsFor}
 use Rattle.planning.specs.Planning.{planChecks, listedAnswer, listingAfter, placingAfter}
 use Rattle.planning.specs.ReadListing.{written, tanks, linesOf, stretchesOn}
 use Rattle.planning.specs.StretchLineLaws.{stretchesOn-lines}
@@ -74,7 +74,7 @@ module _ (p : Problem) (g : ProblemInRange p) (can : canBePlanned p ≡ true) wh
       ap (λ c. stretchesOn (stretchLines (p .sheet .blowers) (p .sheet .wake) c) k) (counts-whole p g can z)
       ∙ stretchesOn-lines (p .sheet .wake) (settledCounts p) (p .sheet .blowers) k o l ∙ intervals-are-settled (windows-left p g) (possible p g can) (p .sheet .blowers) k o l
 
-  plan-by-method : ByMethod p (planLines (planWith (p .sheet) (feedingsOf p)))
+  plan-by-method : ByMethod p (planLines (planFor p))
   unfolding countsOf
   plan-by-method =
       let s = p .sheet in

@@ -32,7 +32,7 @@ use Rattle.plan_lines.specs.Lines.{Line, stretchLines, billLine, planLines, mem
 use Rattle.plan_lines.specs.Text.{writeLines, heldWord, heldText}
 use Rattle.plan_lines.specs.Inputs.{placingOf}
 use Rattle.planning.specs.AloneLaws.{room-alone-at}
-use Rattle.planning.specs.Problem.{Problem, SoundPlacing, alone, ProblemInRange, canBePlanned, feedingsOf, countsOf, shownSet, planWith, listingOf, wordsFor}
+use Rattle.planning.specs.Problem.{Problem, SoundPlacing, alone, ProblemInRange, canBePlanned, feedingsOf, countsOf, shownSet, planWith, planFor, listingOf, wordsFor}
 use Rattle.planning.specs.Planning.{planChecks, listedAnswer, listingAfter, placingAfter}
 use Rattle.planning.specs.ReadListing.{written, tanks, linesOf, headLine, slotsShown, slotSet, stretchPart, feedPart, chargeOn, stretchesOn, inSlot, isOf, ofMeal, placingOn}
 use Rattle.planning.specs.ReadLaws.{linesOf-written}
@@ -150,7 +150,7 @@ module _ (p : Problem) (g : ProblemInRange p) where
         from-one k j u v o (inr b) = omega (arith, b .0)
 
     module _ (listing : List ℕ) (e : listing ≡ listingOf p) where
-      pub lines-are : linesOf listing ≡ planLines (planWith s (feedingsOf p))
+      pub lines-are : linesOf listing ≡ planLines (planFor p)
       lines-are = ap linesOf (e ∙ listing-plan p can) ∙ lines-plan s v (feedingsOf p) feedings-are
 
       -- the placing on the lines is that of the method
@@ -173,7 +173,7 @@ module _ (p : Problem) (g : ProblemInRange p) where
                 (subst₂ (SoundPlan p) (sym (stretchPart-plan s (feedingsOf p))) (sym on) sound-plan);
             plan-lines = λ z.
                 subst (λ ls. LinesOf s ls (placingOn (s .slots) (s .jobs) (feedPart ls))) (sym lines-are)
-                (subst (LinesOf s (planLines (planWith s (feedingsOf p)))) (sym on) (lines-of s v (feedingsOf p) feedings-are));
+                (subst (LinesOf s (planLines (planFor p))) (sym on) (lines-of s v (feedingsOf p) feedings-are));
           }
 
     -- the placing marked in a placing buffer is that of the method too

@@ -92,7 +92,7 @@ module _ {p : Problem} {r : Reading} {d : Day} (h : DayOf p r d) where
   day-slots = subst (λ x. x .slots ≤ maxSlots) (sym (h .read)) (values .head .slots .le)
 
   module _ (e : d .held ≡ false) where
-    pub can : canBePlanned p ≡ true
+    can : canBePlanned p ≡ true
     can = not-false (canBePlanned p) (sym (h .held) ∙ e)
 
     words : ScheduleWords (length (s .jobs)) (s .slots) (feedingsOf p) (d .fed)
@@ -111,7 +111,7 @@ module _ {p : Problem} {r : Reading} {d : Day} (h : DayOf p r d) where
         (words-hold (s .slots) (feedingsOf p) (placing-rows s (feedingsOf p) sound) (d .fed)
         (λ t l. ap (λ xs. getD xs t 0) fed-is ∙ getD-wordsOf (feedingsOf p) t (omega (arith, values .head .slots .le))))
 
-    pub counts-are : take (s .slots) (d .counts) ≡ countsOf p
+    counts-are : take (s .slots) (d .counts) ≡ countsOf p
     counts-are =
         ext-getD 0 (take (s .slots) (d .counts)) (countsOf p) (size ∙ sym (length-countsOf p (h .in-range) can))
         (λ t l. let m : t < s .slots = omega (arith, size) in getD-take (s .slots) (d .counts) t 0 m ∙ h .counted e t m)

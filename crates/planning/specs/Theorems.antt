@@ -18,7 +18,7 @@ use Rattle.energy.specs.Energy.{starts, energy}
 use Rattle.plan_lines.specs.Sizes.{wordBytes, planBytes, placingWords}
 use Rattle.plan_lines.specs.Lines.{Line, planLines}
 use Rattle.plan_lines.specs.Text.{writeLines, planWord, heldWord, planText, heldText}
-use Rattle.planning.specs.Problem.{Problem, alone, ProblemInRange, canBePlanned, feedingsOf, countsOf, planWith, listingOf}
+use Rattle.planning.specs.Problem.{Problem, alone, ProblemInRange, canBePlanned, feedingsOf, countsOf, planFor, listingOf}
 use Rattle.planning.specs.ReadListing.{linesOf}
 use Rattle.planning.specs.ReadLaws.{FitLines, linesOf-written, faultyLine-written}
 use Rattle.planning.specs.FitLaws.{energy-fits, starts-fit, fit-planLines}
@@ -55,7 +55,7 @@ reads-as text word ls e w f =
 
 -- the lines of a problem's plan, or of the problem that is held
 unfoldable pub linesListed : Problem → List Line
-linesListed p = elim (canBePlanned p) [ true ↦ planLines (planWith (p .sheet) (feedingsOf p)) | false ↦ heldLinesOf p ]
+linesListed p = elim (canBePlanned p) [ true ↦ planLines (planFor p) | false ↦ heldLinesOf p ]
 
 module _ (p : Problem) (g : ProblemInRange p) where
   -- Its listing is read back.
@@ -66,7 +66,7 @@ module _ (p : Problem) (g : ProblemInRange p) where
       go : (c : Bool) → canBePlanned p ≡ c → ReadsAs (listingOf p) (linesListed p)
       go true e =
           rw (e, linesListed)
-          (reads-as (listingOf p) planWord (planLines (planWith (p .sheet) (feedingsOf p))) (listing-plan p e) refl
+          (reads-as (listingOf p) planWord (planLines (planFor p)) (listing-plan p e) refl
           (fit-planLines (p .sheet) (g .values) (feedingsOf p) (feedings-sound p g e)))
       go false e = rw (e, linesListed) (reads-as (listingOf p) heldWord (heldLinesOf p) (listing-held p e) refl (fit-held p g))
 
