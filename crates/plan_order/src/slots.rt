@@ -1,7 +1,7 @@
 // The order of the tanks that are fed in one slot.
 //
 // A slot's word has bit j set where ration j + 1 is fed in it: from set bit to set bit the tanks are in sheet order.
-// The same tank stands at different places of two sheets, so that tanks are compared and never bits.
+// The same tank can stand at different places of two sheets, so that tanks are compared and never bits.
 use crate::Order;
 use crate::numbers::differs;
 use crate::numbers::order_of_numbers;
