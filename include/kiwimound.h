@@ -26,19 +26,45 @@
 extern "C" {
 #endif
 
+/* Version ---------------------------------------------------------------------------------------------------------- */
+
+/* The version of the form of sheets and listings, of the sizes and limits below, and of the calls and their answers. It
+ * goes up where a program that calls the library has to be compiled again or changed. Version 1 had fields of five
+ * columns and lines of 21 bytes, and its header named no version. */
+#define KIWIMOUND_VERSION 2u
+
+/* Answers KIWIMOUND_VERSION. libkiwimound.a has this name in version 2 alone, and with gcc and clang every object that
+ * includes this header refers to it: the object links with no libkiwimound.a of another version. librecords.a has no
+ * such name, and is to be built from the same sources. */
+uint32_t kiwimound_version_2(void);
+
+#if defined(__GNUC__)
+#if defined(__has_attribute)
+#if __has_attribute(retain)
+#define KIWIMOUND_KEEP __attribute__((used, retain)) /* a linker that leaves out what nothing uses keeps it too */
+#endif
+#endif
+#ifndef KIWIMOUND_KEEP
+#define KIWIMOUND_KEEP __attribute__((used))
+#endif
+static uint32_t (*const kiwimound_linked_version)(void) KIWIMOUND_KEEP = kiwimound_version_2;
+#undef KIWIMOUND_KEEP
+#endif
+
 /* Sizes and limits ------------------------------------------------------------------------------------------------- */
 
-#define KIWIMOUND_LINE_BYTES 21u         /* a line of a sheet or of a listing: four fields of five columns, and byte 10 */
+#define KIWIMOUND_FIELD_COLUMNS 6u       /* a field: a number without leading zeros, right-justified after blanks */
+#define KIWIMOUND_LINE_BYTES 25u         /* a line of a sheet or of a listing: four fields, then byte 10 */
 #define KIWIMOUND_MAX_SHEET_BYTES 65520u /* a longer sheet is refused by its length */
-#define KIWIMOUND_LISTING_BYTES 32303u   /* the least length of a plan buffer */
+#define KIWIMOUND_LISTING_BYTES 38455u   /* the least length of a plan buffer */
 #define KIWIMOUND_PLACING_WORDS 96u      /* the least length of a placing buffer, in words of 64 bits */
 #define KIWIMOUND_CAUSES_BYTES 65536u    /* the least length of a buffer for causes; no listing of causes is longer */
-#define KIWIMOUND_PRACTICE_BYTES 1365u   /* the longest practice sheet: a buffer that is long enough for every seed */
+#define KIWIMOUND_PRACTICE_BYTES 1625u   /* the longest practice sheet: a buffer that is long enough for every seed */
 #define KIWIMOUND_MAX_SLOTS 96u
 #define KIWIMOUND_MAX_BLOWERS 8u
-#define KIWIMOUND_MAX_WAKE 200u
+#define KIWIMOUND_MAX_WAKE 2000u
 #define KIWIMOUND_MAX_RATIONS 64u
-#define KIWIMOUND_MAX_TANK 999u
+#define KIWIMOUND_MAX_TANK 250000u
 #define KIWIMOUND_MAX_HALLS 4u  /* the most halls that are planned behind one limit */
 #define KIWIMOUND_MAX_LIMIT 32u /* the greatest limit on the busy blowers of all halls in a slot */
 
@@ -50,18 +76,18 @@ extern "C" {
 enum {
     KIWIMOUND_ACCEPTED = 0,
     KIWIMOUND_BAD_HALLS = 14,    /* a limit outside 1 to 32 or halls outside 1 to 4; line 0 */
-    KIWIMOUND_BAD_LENGTH = 1,    /* the sheet is shorter than 21 bytes, longer than 65,520, or not a multiple of 21 long; line 0 */
-    KIWIMOUND_BAD_FIELD = 2,     /* a field is not in the stated form, or a line's closing byte 10 is missing; the first such line */
+    KIWIMOUND_BAD_LENGTH = 1,    /* the sheet is under 25 bytes, above 65,520, or not a multiple of 25 long; line 0 */
+    KIWIMOUND_BAD_FIELD = 2,     /* a field is not in its form, or a closing byte 10 is missing; the first such line */
     KIWIMOUND_BAD_SLOTS = 3,     /* slots outside 1 to 96; line 1 */
     KIWIMOUND_BAD_BLOWERS = 4,   /* blowers outside 1 to 8; line 1 */
-    KIWIMOUND_BAD_WAKE = 5,      /* wake cost above 200; line 1 */
+    KIWIMOUND_BAD_WAKE = 5,      /* wake cost above 2,000; line 1 */
     KIWIMOUND_BAD_RATIONS = 6,   /* rations above 64, or not the number of ration lines; line 1 */
-    KIWIMOUND_BAD_TANK = 7,      /* a tank outside 1 to 999, or below the tank before it; its line */
+    KIWIMOUND_BAD_TANK = 7,      /* a tank outside 1 to 250,000, or below the tank before it; its line */
     KIWIMOUND_BAD_WINDOW = 8,    /* a window that breaks 1 <= first <= last <= slots; its line */
     KIWIMOUND_BAD_VOLUME = 9,    /* a volume of 0 or above its window's length; its line */
     KIWIMOUND_BAD_MEAL = 13,     /* a meal begins at or before the end of the same tank's preceding window; its line */
     KIWIMOUND_SHORT_BUFFER = 10, /* a lent buffer is too short; line 0 */
-    KIWIMOUND_BAD_LIST = 11,     /* a list of bounds or marks is not one for each slot, or a mark is not 0 or 1; line 0 */
+    KIWIMOUND_BAD_LIST = 11,     /* a list of bounds or marks is not one for each slot, or a mark not 0 or 1; line 0 */
     KIWIMOUND_HELD = 12          /* the blowers do not suffice: no sound placing exists; line 0 */
 };
 
@@ -210,7 +236,9 @@ kiwimound_bounds_answer kiwimound_bounds(const uint8_t *sheet, size_t sheet_leng
  * feed lines; so many stretch lines, with blower, first slot, last slot, state (0 off, 1 idle and on, 2 busy); so
  * many feed lines, with slot, blower, tank, part; and last the day's power bill: whole hundreds of cents, remaining
  * cents, 0, 0. That of a held sheet has no bill: `HELD` and byte 10, a line of 12, the number of slots shown, the
- * feedings forced into them, the capacity there; then a line of slot, 0, 0, 0 for each. */
+ * feedings forced into them, the capacity there; then a line of slot, 0, 0, 0 for each.
+ *
+ * Read a line by its columns and not by its blanks: a tank of six digits has none between it and the blower. */
 kiwimound_planned kiwimound_plan(const uint8_t *sheet, size_t sheet_length, uint8_t *listing, size_t listing_length);
 
 /* Plans a sheet into `placing`. Refusals 1 to 9 and 13, then 10 for a buffer under KIWIMOUND_PLACING_WORDS, then 12.
@@ -291,9 +319,10 @@ kiwimound_causes_answer kiwimound_causes(const uint8_t *sheet, size_t sheet_leng
 
 /* Rations as records ----------------------------------------------------------------------------------------------- */
 
-/* These calls are in a library of their own, librecords.a (`rt staticlib records`). Each answers what the call above
- * answers to the sheet of these head numbers and rations, in their order: refusals 3 to 9 and 13, where `line` is
- * the line that the ration would have had and more than 64 rations are 6, then those of the call itself. */
+/* These calls are in a library of their own, librecords.a (`rt staticlib records`), which is linked beside
+ * libkiwimound.a of the same version. Each answers what the call above answers to the sheet of these head numbers and
+ * rations, in their order: refusals 3 to 9 and 13, where `line` is the line that the ration would have had and more
+ * than 64 rations are 6, then those of the call itself. */
 
 typedef struct kiwimound_ration {
     uint32_t tank;

@@ -12,7 +12,7 @@
 
 enum { IDLE_OFF = 0, IDLE_ON = 1 }; /* states of a stretch; 2 is busy */
 
-/* One byte more than the longest sheet: a longer file is then refused by its length. */
+/* One byte more than 65,520: a longer file is then refused by its length. */
 static uint8_t sheet[KIWIMOUND_MAX_SHEET_BYTES + 1];
 static uint8_t listing[KIWIMOUND_LISTING_BYTES];
 

@@ -7,14 +7,14 @@
 #include <stdio.h>
 
 /* `PLAN` or `HELD` and byte 10; then lines of four fields. */
-enum { OPENING_BYTES = 5, WIDTH = 5 };
+enum { OPENING_BYTES = 5 };
 
 /* Field f of line i of a listing, both from 0: blanks, then digits. */
 static unsigned field(const uint8_t *listing, size_t i, size_t f)
 {
-    const uint8_t *text = listing + OPENING_BYTES + i * KIWIMOUND_LINE_BYTES + f * WIDTH;
+    const uint8_t *text = listing + OPENING_BYTES + i * KIWIMOUND_LINE_BYTES + f * KIWIMOUND_FIELD_COLUMNS;
     unsigned value = 0;
-    for (size_t c = 0; c < WIDTH; c++)
+    for (size_t c = 0; c < KIWIMOUND_FIELD_COLUMNS; c++)
         if (text[c] != ' ')
             value = value * 10 + (unsigned)(text[c] - '0');
     return value;

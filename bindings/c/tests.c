@@ -1,6 +1,6 @@
 /* Every call of the library, on the days of document 01 ("Days at the edge"), on days with several meals for a tank, on
- * days for the placing, for the bill, for the order of plans and for causes, on halls and on practice sheets: what it
- * answers, what it writes, and what keeps its value. */
+ * days for the placing, for the bill, for the order of plans and for causes, on a day with tanks numbered by site, on
+ * halls and on practice sheets: what it answers, what it writes, and what keeps its value. */
 #include "kiwimound.h"
 
 #include <stdio.h>
@@ -20,79 +20,107 @@ static unsigned failures = 0;
 #define LEND(text) (const uint8_t *)(text), sizeof(text) - 1
 
 #define FOUR_SLOTS \
-    "    4    2    2    3\n" \
-    "    1    1    2    2\n" \
-    "    2    1    4    2\n" \
-    "    3    2    3    1\n"
+    "     4     2     2     3\n" \
+    "     1     1     2     2\n" \
+    "     2     1     4     2\n" \
+    "     3     2     3     1\n"
 
 #define FOUR_SLOTS_PLAN \
     "PLAN\n" \
-    "    9    2    4    5\n" \
-    "    1    1    4    2\n" \
-    "    2    1    2    0\n" \
-    "    2    3    3    2\n" \
-    "    2    4    4    0\n" \
-    "    1    1    1    1\n" \
-    "    2    1    1    2\n" \
-    "    3    1    2    1\n" \
-    "    3    2    3    1\n" \
-    "    4    1    2    2\n" \
-    "    0   16    0    0\n"
+    "     9     2     4     5\n" \
+    "     1     1     4     2\n" \
+    "     2     1     2     0\n" \
+    "     2     3     3     2\n" \
+    "     2     4     4     0\n" \
+    "     1     1     1     1\n" \
+    "     2     1     1     2\n" \
+    "     3     1     2     1\n" \
+    "     3     2     3     1\n" \
+    "     4     1     2     2\n" \
+    "     0    16     0     0\n"
 
 #define HELD \
-    "    3    1    1    2\n" \
-    "    1    1    2    2\n" \
-    "    2    2    3    2\n"
+    "     3     1     1     2\n" \
+    "     1     1     2     2\n" \
+    "     2     2     3     2\n"
 
 #define HELD_LISTING \
     "HELD\n" \
-    "   12    1    2    1\n" \
-    "    2    0    0    0\n"
+    "    12     1     2     1\n" \
+    "     2     0     0     0\n"
 
 #define ONE_FEEDING \
-    "    3    1    1    1\n" \
-    "    1    1    3    1\n"
+    "     3     1     1     1\n" \
+    "     1     1     3     1\n"
 
 /* The same counts, but of another tank. */
 #define LAST_SLOT \
-    "    3    1    1    1\n" \
-    "    7    3    3    1\n"
+    "     3     1     1     1\n" \
+    "     7     3     3     1\n"
 
 /* Tank 1 has a morning and an evening meal. */
 #define TWO_MEALS \
-    "   10    2    3    3\n" \
-    "    1    1    3    2\n" \
-    "    1    8   10    2\n" \
-    "    2    1    4    3\n"
+    "    10     2     3     3\n" \
+    "     1     1     3     2\n" \
+    "     1     8    10     2\n" \
+    "     2     1     4     3\n"
 
 #define TWO_MEALS_PLAN \
     "PLAN\n" \
-    "   16    3    6    7\n" \
-    "    1    1    4    2\n" \
-    "    1    5    8    0\n" \
-    "    1    9   10    2\n" \
-    "    2    1    2    0\n" \
-    "    2    3    3    2\n" \
-    "    2    4   10    0\n" \
-    "    1    1    1    1\n" \
-    "    2    1    2    1\n" \
-    "    3    1    1    2\n" \
-    "    3    2    2    2\n" \
-    "    4    1    2    3\n" \
-    "    9    1    1    1\n" \
-    "   10    1    1    2\n" \
-    "    0   29    0    0\n"
+    "    16     3     6     7\n" \
+    "     1     1     4     2\n" \
+    "     1     5     8     0\n" \
+    "     1     9    10     2\n" \
+    "     2     1     2     0\n" \
+    "     2     3     3     2\n" \
+    "     2     4    10     0\n" \
+    "     1     1     1     1\n" \
+    "     2     1     2     1\n" \
+    "     3     1     1     2\n" \
+    "     3     2     2     2\n" \
+    "     4     1     2     3\n" \
+    "     9     1     1     1\n" \
+    "    10     1     1     2\n" \
+    "     0    29     0     0\n"
 
 /* The second meal begins in the last slot of the first. */
 #define BAD_MEAL \
-    "    4    1    1    2\n" \
-    "    5    1    2    1\n" \
-    "    5    2    4    1\n"
+    "     4     1     1     2\n" \
+    "     5     1     2     1\n" \
+    "     5     2     4     1\n"
 
 #define BAD_WINDOW \
-    "    3    1    1    2\n" \
-    "    1    1    2    2\n" \
-    "    2    2    4    2\n"
+    "     3     1     1     2\n" \
+    "     1     1     2     2\n" \
+    "     2     2     4     2\n"
+
+/* Tanks numbered by site and pond, up to the greatest number, and blowers whose start takes 1,500 units. */
+#define SITE_TANKS \
+    "     8     2  1500     4\n" \
+    "101004     1     2     2\n" \
+    "101005     6     8     2\n" \
+    "249912     1     3     1\n" \
+    "250000     7     8     2\n"
+
+/* Tanks 101004 and 250000 take all slots of their windows; tank 249912 is fed in slot 3, and tank 101005 in the slots 6
+ * and 8. Blower 1 stays on in the slots 4 and 5, and blower 2 has the second feeding of slot 8. Energy is
+ * 9 + 2 * 1,500, and at 18 tenths of a cent it costs 5,416.2 cents. */
+#define SITE_TANKS_PLAN \
+    "PLAN\n" \
+    "  3009     2     5     7\n" \
+    "     1     1     3     2\n" \
+    "     1     4     5     1\n" \
+    "     1     6     8     2\n" \
+    "     2     1     7     0\n" \
+    "     2     8     8     2\n" \
+    "     1     1101004     1\n" \
+    "     2     1101004     2\n" \
+    "     3     1249912     1\n" \
+    "     6     1101005     1\n" \
+    "     7     1250000     1\n" \
+    "     8     1101005     2\n" \
+    "     8     2250000     2\n" \
+    "    54    16     0     0\n"
 
 /* The value of bytes that must keep it, and how many bytes or words are lent beyond the least length. */
 enum { GUARD = 0xA5, SPARE = 7 };
@@ -159,9 +187,9 @@ static void test_read(void)
     for (size_t i = 0; i < 256; i++)
         EXPECT(bad.numbers[i] == 0);
     EXPECT(kiwimound_read(LEND("")).number == KIWIMOUND_BAD_LENGTH);
-    EXPECT(kiwimound_read(LEND("   97    1    1    0\n")).number == KIWIMOUND_BAD_SLOTS);
-    EXPECT(kiwimound_read(LEND("    3    9    1    0\n")).number == KIWIMOUND_BAD_BLOWERS);
-    EXPECT(kiwimound_read(LEND("    3    1  201    0\n")).number == KIWIMOUND_BAD_WAKE);
+    EXPECT(kiwimound_read(LEND("    97     1     1     0\n")).number == KIWIMOUND_BAD_SLOTS);
+    EXPECT(kiwimound_read(LEND("     3     9     1     0\n")).number == KIWIMOUND_BAD_BLOWERS);
+    EXPECT(kiwimound_read(LEND("     3     1  2001     0\n")).number == KIWIMOUND_BAD_WAKE);
 }
 
 static void test_write(void)
@@ -182,18 +210,18 @@ static void test_write(void)
     EXPECT(w.number == KIWIMOUND_BAD_WINDOW && w.line == 3 && w.length == 0);
     EXPECT(kiwimound_write(97, 1, 1, 0, numbers, 0, listing, length).number == KIWIMOUND_BAD_SLOTS);
     EXPECT(kiwimound_write(3, 9, 1, 0, numbers, 0, listing, length).number == KIWIMOUND_BAD_BLOWERS);
-    EXPECT(kiwimound_write(3, 1, 201, 0, numbers, 0, listing, length).number == KIWIMOUND_BAD_WAKE);
+    EXPECT(kiwimound_write(3, 1, 2001, 0, numbers, 0, listing, length).number == KIWIMOUND_BAD_WAKE);
     EXPECT(kept(listing, sizeof listing, 0));
 }
 
 static void test_find(void)
 {
     kiwimound_part p = kiwimound_find(LEND(FOUR_SLOTS), 2);
-    EXPECT(p.start == 42 && p.length == KIWIMOUND_LINE_BYTES);
+    EXPECT(p.start == 50 && p.length == KIWIMOUND_LINE_BYTES);
     p = kiwimound_find(LEND(FOUR_SLOTS), 9);
     EXPECT(p.start == 0 && p.length == 0);
     p = kiwimound_find(LEND(HELD), 2);
-    EXPECT(p.start == 42 && p.length == KIWIMOUND_LINE_BYTES);
+    EXPECT(p.start == 50 && p.length == KIWIMOUND_LINE_BYTES);
     p = kiwimound_find(LEND(BAD_WINDOW), 1);
     EXPECT(p.start == 0 && p.length == 0);
 }
@@ -212,8 +240,12 @@ static void test_meals(void)
     EXPECT(part.start == KIWIMOUND_LINE_BYTES && part.length == 2 * KIWIMOUND_LINE_BYTES);
     part = kiwimound_find(LEND(TWO_MEALS), 2);
     EXPECT(part.start == 3 * KIWIMOUND_LINE_BYTES && part.length == KIWIMOUND_LINE_BYTES);
-    EXPECT(kiwimound_read(LEND("    4    1    1    2\n    5    1    2    1\n    5    3    4    1\n")).number == KIWIMOUND_ACCEPTED);
-    EXPECT(kiwimound_read(LEND("    4    1    1    2\n    5    1    2    1\n    4    3    4    1\n")).number == KIWIMOUND_BAD_TANK);
+    EXPECT(kiwimound_read(LEND("     4     1     1     2\n"
+                               "     5     1     2     1\n"
+                               "     5     3     4     1\n")).number == KIWIMOUND_ACCEPTED);
+    EXPECT(kiwimound_read(LEND("     4     1     1     2\n"
+                               "     5     1     2     1\n"
+                               "     4     3     4     1\n")).number == KIWIMOUND_BAD_TANK);
 
     static const uint32_t numbers[8] = {5, 1, 2, 1, 5, 2, 4, 1}, none[4] = {0, 0, 0, 0};
     static const uint8_t marks[4] = {1, 0, 0, 0};
@@ -327,38 +359,45 @@ static bool is_planned(const char *text, const char *expected)
 /* The last line of a plan: hundreds of cents, remaining cents, 0, 0. */
 static void test_bill(void)
 {
-    EXPECT(is_planned("    3    1    4    0\n", /* nothing is on */
+    EXPECT(is_planned("     3     1     4     0\n", /* nothing is on */
                       "PLAN\n"
-                      "    0    0    1    0\n"
-                      "    1    1    3    0\n"
-                      "    0    0    0    0\n"));
-    EXPECT(is_planned("    1    1  200    1\n" /* 201 units at 18 tenths of a cent: 361.8 cents */
-                      "    1    1    1    1\n",
+                      "     0     0     1     0\n"
+                      "     1     1     3     0\n"
+                      "     0     0     0     0\n"));
+    EXPECT(is_planned("     1     1   200     1\n" /* 201 units at 18 tenths of a cent: 361.8 cents */
+                      "     1     1     1     1\n",
                       "PLAN\n"
-                      "  201    1    1    1\n"
-                      "    1    1    1    2\n"
-                      "    1    1    1    1\n"
-                      "    3   62    0    0\n"));
-    EXPECT(is_planned("   25    1    3    2\n" /* 4 units in slot 1 at 18, and 4 in slot 25 at 31: 19.6 cents */
-                      "    1    1    1    1\n"
-                      "    2   25   25    1\n",
+                      "   201     1     1     1\n"
+                      "     1     1     1     2\n"
+                      "     1     1     1     1\n"
+                      "     3    62     0     0\n"));
+    EXPECT(is_planned("     1     1  2000     1\n" /* 2,001 units: 3,601.8 cents */
+                      "     1     1     1     1\n",
                       "PLAN\n"
-                      "    8    2    3    2\n"
-                      "    1    1    1    2\n"
-                      "    1    2   24    0\n"
-                      "    1   25   25    2\n"
-                      "    1    1    1    1\n"
-                      "   25    1    2    1\n"
-                      "    0   20    0    0\n"));
-    EXPECT(is_planned("   37    1    0    1\n" /* slot 36 at 31 and slot 37 at 24: 5.5 cents */
-                      "    1   36   37    2\n",
+                      "  2001     1     1     1\n"
+                      "     1     1     1     2\n"
+                      "     1     1     1     1\n"
+                      "    36     2     0     0\n"));
+    EXPECT(is_planned("    25     1     3     2\n" /* 4 units in slot 1 at 18, and 4 in slot 25 at 31: 19.6 cents */
+                      "     1     1     1     1\n"
+                      "     2    25    25     1\n",
                       "PLAN\n"
-                      "    2    1    2    2\n"
-                      "    1    1   35    0\n"
-                      "    1   36   37    2\n"
-                      "   36    1    1    1\n"
-                      "   37    1    1    2\n"
-                      "    0    6    0    0\n"));
+                      "     8     2     3     2\n"
+                      "     1     1     1     2\n"
+                      "     1     2    24     0\n"
+                      "     1    25    25     2\n"
+                      "     1     1     1     1\n"
+                      "    25     1     2     1\n"
+                      "     0    20     0     0\n"));
+    EXPECT(is_planned("    37     1     0     1\n" /* slot 36 at 31 and slot 37 at 24: 5.5 cents */
+                      "     1    36    37     2\n",
+                      "PLAN\n"
+                      "     2     1     2     2\n"
+                      "     1     1    35     0\n"
+                      "     1    36    37     2\n"
+                      "    36     1     1     1\n"
+                      "    37     1     1     2\n"
+                      "     0     6     0     0\n"));
     guard();
     EXPECT(KIWIMOUND_LISTING_BYTES == 5 + KIWIMOUND_LINE_BYTES * (2 + 2 * KIWIMOUND_MAX_BLOWERS * KIWIMOUND_MAX_SLOTS));
     kiwimound_planned p = kiwimound_plan(LEND(FOUR_SLOTS), listing, KIWIMOUND_LISTING_BYTES - KIWIMOUND_LINE_BYTES);
@@ -469,38 +508,38 @@ static void test_practice(void)
     /* From seed 21, draw by draw: 16,004, 12,015 and 13,002, which are 4 mod 8, 156 mod 201 and 2 mod 65; 29,177,
      * 24,895 and 21,216, which are 89 mod 96, 3 mod 7 and 0 mod 4; then 25,919, 95 mod 96, which leaves one slot. */
     static const char seed_21[] =
-        "   96    5  156    2\n"
-        "    1   90   93    1\n"
-        "    2   96   96    1\n";
+        "    96     5   156     2\n"
+        "     1    90    93     1\n"
+        "     2    96    96     1\n";
     EXPECT(is_practice(21, LEND(seed_21)));
     EXPECT(is_planned(seed_21, /* blower 1 stays on from slot 93 to 96: 160 units at 22 tenths of a cent */
                       "PLAN\n"
-                      "  160    1    8    2\n"
-                      "    1    1   92    0\n"
-                      "    1   93   93    2\n"
-                      "    1   94   95    1\n"
-                      "    1   96   96    2\n"
-                      "    2    1   96    0\n"
-                      "    3    1   96    0\n"
-                      "    4    1   96    0\n"
-                      "    5    1   96    0\n"
-                      "   93    1    1    1\n"
-                      "   96    1    2    1\n"
-                      "    3   52    0    0\n"));
+                      "   160     1     8     2\n"
+                      "     1     1    92     0\n"
+                      "     1    93    93     2\n"
+                      "     1    94    95     1\n"
+                      "     1    96    96     2\n"
+                      "     2     1    96     0\n"
+                      "     3     1    96     0\n"
+                      "     4     1    96     0\n"
+                      "     5     1    96     0\n"
+                      "    93     1     1     1\n"
+                      "    96     1     2     1\n"
+                      "     3    52     0     0\n"));
     static const char seed_1580[] =
-        "   96    1  108    2\n"
-        "    1   91   93    3\n"
-        "    2   91   93    1\n";
+        "    96     1   108     2\n"
+        "     1    91    93     3\n"
+        "     2    91    93     1\n";
     EXPECT(is_practice(1580, LEND(seed_1580)));
     guard();
     const kiwimound_planned p = kiwimound_plan(LEND(seed_1580), listing, sizeof listing);
     EXPECT(p.number == KIWIMOUND_HELD && p.line == 0);
     EXPECT(is_listing(p, /* three slots, and four feedings for one blower */
                       "HELD\n"
-                      "   12    3    4    3\n"
-                      "   91    0    0    0\n"
-                      "   92    0    0    0\n"
-                      "   93    0    0    0\n"));
+                      "    12     3     4     3\n"
+                      "    91     0     0     0\n"
+                      "    92     0     0     0\n"
+                      "    93     0     0     0\n"));
 
     static uint8_t sheet[KIWIMOUND_PRACTICE_BYTES];
     /* The last seeds that the program takes, the next one, the last of all; those after which s is 0 and 2^32 - 1. */
@@ -575,11 +614,11 @@ static bool are_halls(uint32_t limit, uint32_t count, const struct hall halls[KI
 #define ONE_FEEDING_HALL \
     ONE_FEEDING, WHOLE, 0, 0, \
         "PLAN\n" \
-        "    2    1    2    1\n" \
-        "    1    1    2    0\n" \
-        "    1    3    3    2\n" \
-        "    3    1    1    1\n" \
-        "    0    4    0    0\n", \
+        "     2     1     2     1\n" \
+        "     1     1     2     0\n" \
+        "     1     3     3     2\n" \
+        "     3     1     1     1\n" \
+        "     0     4     0     0\n", \
         {0, 0, 1}
 /* A hall that is refused for its length, and one whose buffers are too short though its sheet has a plan. */
 #define NO_SHEET_HALL "", WHOLE, KIWIMOUND_BAD_LENGTH, 0, NULL, {0}
@@ -594,34 +633,34 @@ static void test_halls(void)
         {FOUR_SLOTS_HALL},
         {ONE_FEEDING, WHOLE, 0, 0, /* alone it would be fed in slot 3 */
          "PLAN\n"
-         "    2    1    3    1\n"
-         "    1    1    1    0\n"
-         "    1    2    2    2\n"
-         "    1    3    3    0\n"
-         "    2    1    1    1\n"
-         "    0    4    0    0\n",
+         "     2     1     3     1\n"
+         "     1     1     1     0\n"
+         "     1     2     2     2\n"
+         "     1     3     3     0\n"
+         "     2     1     1     1\n"
+         "     0     4     0     0\n",
          {0, 1}},
-        {"    3    1    1    1\n"
-         "    5    2    3    1\n",
+        {"     3     1     1     1\n"
+         "     5     2     3     1\n",
          WHOLE, KIWIMOUND_HELD, 0,
          "HELD\n"
-         "   12    2    1    0\n"
-         "    2    0    0    0\n"
-         "    3    0    0    0\n",
+         "    12     2     1     0\n"
+         "     2     0     0     0\n"
+         "     3     0     0     0\n",
          {0}},
-        {"    4    2    0    2\n" /* nothing is taken by the hall before */
-         "    1    1    4    1\n"
-         "    2    1    4    1\n",
+        {"     4     2     0     2\n" /* nothing is taken by the hall before */
+         "     1     1     4     1\n"
+         "     2     1     4     1\n",
          WHOLE, 0, 0,
          "PLAN\n"
-         "    2    2    4    2\n"
-         "    1    1    1    2\n"
-         "    1    2    3    0\n"
-         "    1    4    4    2\n"
-         "    2    1    4    0\n"
-         "    1    1    1    1\n"
-         "    4    1    2    1\n"
-         "    0    4    0    0\n",
+         "     2     2     4     2\n"
+         "     1     1     1     2\n"
+         "     1     2     3     0\n"
+         "     1     4     4     2\n"
+         "     2     1     4     0\n"
+         "     1     1     1     1\n"
+         "     4     1     2     1\n"
+         "     0     4     0     0\n",
          {1, 0, 0, 2}},
     };
     for (uint32_t count = 1; count <= KIWIMOUND_MAX_HALLS; count++)
@@ -656,17 +695,17 @@ static void test_halls(void)
         {ONE_FEEDING_HALL},
         {FOUR_SLOTS, WHOLE, 0, 0,
          "PLAN\n"
-         "    9    2    4    5\n"
-         "    1    1    4    2\n"
-         "    2    1    1    0\n"
-         "    2    2    2    2\n"
-         "    2    3    4    0\n"
-         "    1    1    1    1\n"
-         "    2    1    1    2\n"
-         "    2    2    2    1\n"
-         "    3    1    3    1\n"
-         "    4    1    2    2\n"
-         "    0   16    0    0\n",
+         "     9     2     4     5\n"
+         "     1     1     4     2\n"
+         "     2     1     1     0\n"
+         "     2     2     2     2\n"
+         "     2     3     4     0\n"
+         "     1     1     1     1\n"
+         "     2     1     1     2\n"
+         "     2     2     2     1\n"
+         "     3     1     3     1\n"
+         "     4     1     2     2\n"
+         "     0    16     0     0\n",
          {1, 1 | 2, 4, 2}},
         {NO_SHEET_HALL},
         {NO_SHEET_HALL},
@@ -691,19 +730,19 @@ static void test_halls_alone(void)
         {HELD_HALL},
         {FOUR_SLOTS, WHOLE, KIWIMOUND_HELD, 0, /* five feedings in four slots; the first three have four of them */
          "HELD\n"
-         "   12    3    4    3\n"
-         "    1    0    0    0\n"
-         "    2    0    0    0\n"
-         "    3    0    0    0\n",
+         "    12     3     4     3\n"
+         "     1     0     0     0\n"
+         "     2     0     0     0\n"
+         "     3     0     0     0\n",
          {0}},
-        {"    1    1    0    1\n"
-         "    9    1    1    1\n",
+        {"     1     1     0     1\n"
+         "     9     1     1     1\n",
          WHOLE, 0, 0,
          "PLAN\n"
-         "    1    1    1    1\n"
-         "    1    1    1    2\n"
-         "    1    1    9    1\n"
-         "    0    2    0    0\n",
+         "     1     1     1     1\n"
+         "     1     1     1     2\n"
+         "     1     1     9     1\n"
+         "     0     2     0     0\n",
          {1}},
         {ONE_FEEDING_HALL},
     };
@@ -799,14 +838,14 @@ static const struct {
     uint32_t number, line;
 } faulty_sheets[] = {
     {"", KIWIMOUND_BAD_LENGTH, 0},
-    {"    3    1    1   00\n", KIWIMOUND_BAD_FIELD, 1},
-    {"   97    1    1    0\n", KIWIMOUND_BAD_SLOTS, 1},
-    {"    3    9    1    0\n", KIWIMOUND_BAD_BLOWERS, 1},
-    {"    3    1  201    0\n", KIWIMOUND_BAD_WAKE, 1},
-    {"    3    1    1    1\n", KIWIMOUND_BAD_RATIONS, 1},
-    {"    3    1    1    1\n    0    1    3    1\n", KIWIMOUND_BAD_TANK, 2},
+    {"     3     1     1    00\n", KIWIMOUND_BAD_FIELD, 1},
+    {"    97     1     1     0\n", KIWIMOUND_BAD_SLOTS, 1},
+    {"     3     9     1     0\n", KIWIMOUND_BAD_BLOWERS, 1},
+    {"     3     1  2001     0\n", KIWIMOUND_BAD_WAKE, 1},
+    {"     3     1     1     1\n", KIWIMOUND_BAD_RATIONS, 1},
+    {"     3     1     1     1\n     0     1     3     1\n", KIWIMOUND_BAD_TANK, 2},
     {BAD_WINDOW, KIWIMOUND_BAD_WINDOW, 3},
-    {"    3    1    1    1\n    1    1    3    4\n", KIWIMOUND_BAD_VOLUME, 2},
+    {"     3     1     1     1\n     1     1     3     4\n", KIWIMOUND_BAD_VOLUME, 2},
     {BAD_MEAL, KIWIMOUND_BAD_MEAL, 3},
 };
 enum { FAULTY_SHEETS = sizeof faulty_sheets / sizeof *faulty_sheets };
@@ -820,13 +859,13 @@ static bool is_compared(const char *first, const char *second, uint32_t number, 
 
 /* Tanks 1 to 7, all in slot 1. */
 #define SEVEN_TANKS \
-    "    1    1    1    1\n" \
-    "    2    1    1    1\n" \
-    "    3    1    1    1\n" \
-    "    4    1    1    1\n" \
-    "    5    1    1    1\n" \
-    "    6    1    1    1\n" \
-    "    7    1    1    1\n"
+    "     1     1     1     1\n" \
+    "     2     1     1     1\n" \
+    "     3     1     1     1\n" \
+    "     4     1     1     1\n" \
+    "     5     1     1     1\n" \
+    "     6     1     1     1\n" \
+    "     7     1     1     1\n"
 
 /* Days in the order of their plans; equal ranks have the same plan. Beside each are the tanks fed, slot by slot, with 0
  * where there are none. Most windows are as long as their volume, so that the sheet leaves its plan no choice. */
@@ -834,78 +873,78 @@ static const struct {
     uint32_t rank;
     const char *sheet;
 } ranked[] = {
-    {1, "    1    1    0    0\n"}, /* 0 */
-    {2, "    1    8    0    7\n" SEVEN_TANKS}, /* 1 2 3 4 5 6 7, which ends before the next */
-    {3, "    1    8    0    8\n" SEVEN_TANKS "    8    1    1    1\n"}, /* 1 2 3 4 5 6 7 8 */
-    {4, "    1    8    0    8\n" SEVEN_TANKS "    9    1    1    1\n"}, /* 1 2 3 4 5 6 7 9 */
-    {5, "    1    1    0    1\n" /* 4: fewer tanks, but the lists above begin with a smaller one */
-        "    4    1    1    1\n"},
-    {6, "    1    2    0    2\n" /* 4 9 */
-        "    4    1    1    1\n"
-        "    9    1    1    1\n"},
-    {7, "    1    1    0    1\n" /* 5 */
-        "    5    1    1    1\n"},
-    {7, "    1    8  200    1\n" /* 5, with other blowers and wake cost */
-        "    5    1    1    1\n"},
-    {8, "    2    1    0    0\n"}, /* 0, 0 */
-    {9, "    2    1    0    2\n" /* 1, 3 */
-        "    1    1    1    1\n"
-        "    3    2    2    1\n"},
-    {10, "    2    1    0    2\n" /* 3, 1: in slot 2 it would come first */
-         "    1    2    2    1\n"
-         "    3    1    1    1\n"},
-    {11, "    2    1    0    2\n" /* 5, 6: ration 1 in slot 1, where the day above has ration 2 */
-         "    5    1    1    1\n"
-         "    6    2    2    1\n"},
-    {12, "    2    1    0    1\n" /* 9, 9 */
-         "    9    1    2    2\n"},
-    {12, "    2    1    0    2\n" /* 9, 9 as two meals */
-         "    9    1    1    1\n"
-         "    9    2    2    1\n"},
-    {13, "    3    1    4    0\n"}, /* 0, 0, 0: D alone puts it after all above */
+    {1, "     1     1     0     0\n"}, /* 0 */
+    {2, "     1     8     0     7\n" SEVEN_TANKS}, /* 1 2 3 4 5 6 7, which ends before the next */
+    {3, "     1     8     0     8\n" SEVEN_TANKS "     8     1     1     1\n"}, /* 1 2 3 4 5 6 7 8 */
+    {4, "     1     8     0     8\n" SEVEN_TANKS "     9     1     1     1\n"}, /* 1 2 3 4 5 6 7 9 */
+    {5, "     1     1     0     1\n" /* 4: fewer tanks, but the lists above begin with a smaller one */
+        "     4     1     1     1\n"},
+    {6, "     1     2     0     2\n" /* 4 9 */
+        "     4     1     1     1\n"
+        "     9     1     1     1\n"},
+    {7, "     1     1     0     1\n" /* 5 */
+        "     5     1     1     1\n"},
+    {7, "     1     8   200     1\n" /* 5, with other blowers and wake cost */
+        "     5     1     1     1\n"},
+    {8, "     2     1     0     0\n"}, /* 0, 0 */
+    {9, "     2     1     0     2\n" /* 1, 3 */
+        "     1     1     1     1\n"
+        "     3     2     2     1\n"},
+    {10, "     2     1     0     2\n" /* 3, 1: in slot 2 it would come first */
+         "     1     2     2     1\n"
+         "     3     1     1     1\n"},
+    {11, "     2     1     0     2\n" /* 5, 6: ration 1 in slot 1, where the day above has ration 2 */
+         "     5     1     1     1\n"
+         "     6     2     2     1\n"},
+    {12, "     2     1     0     1\n" /* 9, 9 */
+         "     9     1     2     2\n"},
+    {12, "     2     1     0     2\n" /* 9, 9 as two meals */
+         "     9     1     1     1\n"
+         "     9     2     2     1\n"},
+    {13, "     3     1     4     0\n"}, /* 0, 0, 0: D alone puts it after all above */
     {14, ONE_FEEDING}, /* 0, 0, 1 */
-    {14, "    3    2  200    1\n" /* 0, 0, 1 from another window */
-         "    1    2    3    1\n"},
+    {14, "     3     2   200     1\n" /* 0, 0, 1 from another window */
+         "     1     2     3     1\n"},
     {15, LAST_SLOT}, /* 0, 0, 7: the counts of the two above */
-    {16, "    3    1    1    1\n" /* 1, 0, 0 */
-         "    1    1    1    1\n"},
-    {17, "    3    1    2    2\n" /* 1, 0, 2 */
-         "    1    1    1    1\n"
-         "    2    3    3    1\n"},
-    {18, "    3    2    1    3\n" /* 1 3, 2 3, 3: document 01 */
-         "    1    1    2    1\n"
-         "    2    1    2    1\n"
-         "    3    1    3    3\n"},
-    {18, "    3    2    1    3\n" /* 1 3, 2 3, 3 */
-         "    1    1    1    1\n"
-         "    2    2    2    1\n"
-         "    3    1    3    3\n"},
-    {19, "    3    1    1    1\n" /* 2, 0, 0 */
-         "    2    1    1    1\n"},
-    {20, "    3    2    1    3\n" /* 2 3, 1 3, 3: the counts of rank 18 */
-         "    1    2    2    1\n"
-         "    2    1    1    1\n"
-         "    3    1    3    3\n"},
-    {21, "    4    1    1    1\n" /* 0, 0, 1, 0: D alone differs from rank 14 */
-         "    1    3    3    1\n"},
-    {22, "    4    1    2    2\n" /* 1, 1, 2, 2 */
-         "    1    1    2    2\n"
-         "    2    3    4    2\n"},
+    {16, "     3     1     1     1\n" /* 1, 0, 0 */
+         "     1     1     1     1\n"},
+    {17, "     3     1     2     2\n" /* 1, 0, 2 */
+         "     1     1     1     1\n"
+         "     2     3     3     1\n"},
+    {18, "     3     2     1     3\n" /* 1 3, 2 3, 3: document 01 */
+         "     1     1     2     1\n"
+         "     2     1     2     1\n"
+         "     3     1     3     3\n"},
+    {18, "     3     2     1     3\n" /* 1 3, 2 3, 3 */
+         "     1     1     1     1\n"
+         "     2     2     2     1\n"
+         "     3     1     3     3\n"},
+    {19, "     3     1     1     1\n" /* 2, 0, 0 */
+         "     2     1     1     1\n"},
+    {20, "     3     2     1     3\n" /* 2 3, 1 3, 3: the counts of rank 18 */
+         "     1     2     2     1\n"
+         "     2     1     1     1\n"
+         "     3     1     3     3\n"},
+    {21, "     4     1     1     1\n" /* 0, 0, 1, 0: D alone differs from rank 14 */
+         "     1     3     3     1\n"},
+    {22, "     4     1     2     2\n" /* 1, 1, 2, 2 */
+         "     1     1     2     2\n"
+         "     2     3     4     2\n"},
     {23, FOUR_SLOTS}, /* 1, 1, 2 3, 2: in slot 3 the list above ends first */
-    {23, "    4    2    0    3\n" /* 1, 1, 2 3, 2 */
-         "    1    1    2    2\n"
-         "    2    3    4    2\n"
-         "    3    3    3    1\n"},
-    {24, "    4    2    0    3\n" /* 1, 1, 2 3, 3: slot 4 alone differs, and not in its count */
-         "    1    1    2    2\n"
-         "    2    3    3    1\n"
-         "    3    3    4    2\n"},
+    {23, "     4     2     0     3\n" /* 1, 1, 2 3, 2 */
+         "     1     1     2     2\n"
+         "     2     3     4     2\n"
+         "     3     3     3     1\n"},
+    {24, "     4     2     0     3\n" /* 1, 1, 2 3, 3: slot 4 alone differs, and not in its count */
+         "     1     1     2     2\n"
+         "     2     3     3     1\n"
+         "     3     3     4     2\n"},
     {25, TWO_MEALS}, /* 1, 2, 1 2, 2, 0, 0, 0, 0, 1, 1 */
-    {25, "   10    2    0    4\n" /* the same, tank 2 being ration 4 here and 3 above */
-         "    1    1    1    1\n"
-         "    1    3    3    1\n"
-         "    1    9   10    2\n"
-         "    2    2    4    3\n"},
+    {25, "    10     2     0     4\n" /* the same, tank 2 being ration 4 here and 3 above */
+         "     1     1     1     1\n"
+         "     1     3     3     1\n"
+         "     1     9    10     2\n"
+         "     2     2     4     3\n"},
 };
 
 static void test_compare(void)
@@ -916,6 +955,7 @@ static void test_compare(void)
     EXPECT(is_compared(LAST_SLOT, ONE_FEEDING, 0, 0, KIWIMOUND_ORDER_AFTER));
     EXPECT(is_compared(FOUR_SLOTS, ONE_FEEDING, 0, 0, KIWIMOUND_ORDER_AFTER));
     EXPECT(is_compared(FOUR_SLOTS, FOUR_SLOTS, 0, 0, KIWIMOUND_ORDER_SAME));
+    EXPECT(is_compared(SITE_TANKS, SITE_TANKS, 0, 0, KIWIMOUND_ORDER_SAME));
     for (size_t i = 0; i < sizeof ranked / sizeof *ranked; i++)
         for (size_t j = 0; j < sizeof ranked / sizeof *ranked; j++) {
             const uint32_t order = ranked[i].rank < ranked[j].rank   ? KIWIMOUND_ORDER_BEFORE
@@ -985,6 +1025,46 @@ static void test_compare_every_ration(void)
     }
 }
 
+/* Every call that is lent a sheet refuses it so, with buffers long enough, and changes nothing. */
+static bool is_refused(const char *sheet, uint32_t number, uint32_t line)
+{
+    static const uint8_t marks[KIWIMOUND_MAX_SLOTS];
+    static const uint32_t bounds[KIWIMOUND_MAX_SLOTS];
+    const uint8_t *bytes = (const uint8_t *)sheet;
+    const size_t length = strlen(sheet);
+    guard();
+    const kiwimound_reading r = kiwimound_read(bytes, length);
+    bool is = r.number == number && r.line == line && r.slots == 0 && r.blowers == 0 && r.wake == 0 && r.rations == 0;
+    for (size_t i = 0; i < 256; i++)
+        is = is && r.numbers[i] == 0;
+    static const uint32_t tanks[] = {1, 2, 250000, 250001, 999999};
+    for (size_t i = 0; i < sizeof tanks / sizeof *tanks; i++) {
+        const kiwimound_part part = kiwimound_find(bytes, length, tanks[i]);
+        is = is && part.start == 0 && part.length == 0;
+    }
+    const kiwimound_shortfall_answer s = kiwimound_shortfall(bytes, length, marks, KIWIMOUND_MAX_SLOTS);
+    is = is && s.number == number && s.line == line && s.shortfall == 0;
+    const kiwimound_bounds_answer b =
+        kiwimound_bounds(bytes, length, bounds, KIWIMOUND_MAX_SLOTS, bounds, KIWIMOUND_MAX_SLOTS);
+    is = is && b.number == number && b.line == line && !b.yes;
+    const kiwimound_planned plans[] = {
+        kiwimound_plan(bytes, length, listing, sizeof listing),
+        kiwimound_plan_placing(bytes, length, placing, LENT_WORDS),
+        kiwimound_plan_both(bytes, length, listing, sizeof listing, placing, LENT_WORDS),
+        kiwimound_plan_number(bytes, length),
+    };
+    for (size_t i = 0; i < sizeof plans / sizeof *plans; i++)
+        is = is && plans[i].number == number && plans[i].line == line && plans[i].length == 0;
+    const struct hall hall = {sheet, WHOLE, number, line, NULL, {0}};
+    is = is && are_halls(1, 4, (const struct hall[]){hall, hall, hall, hall});
+    is = is && is_compared(sheet, FOUR_SLOTS, number, line, KIWIMOUND_ORDER_NO);
+    is = is && is_compared(FOUR_SLOTS, sheet, number, line, KIWIMOUND_ORDER_NO);
+    const kiwimound_causes_answer c = kiwimound_causes(bytes, length, causes, sizeof causes);
+    is = is && c.number == number && c.line == line && c.length == 0 && !c.cut;
+    return is && kept(listing, sizeof listing, 0) && kept(placing, sizeof placing, 0) &&
+           kept(causes, sizeof causes, 0);
+}
+
 /* Nothing listed: number and line are these, and every byte keeps its value. */
 static bool is_without_causes(const char *sheet, size_t lent, uint32_t number, uint32_t line)
 {
@@ -1014,37 +1094,37 @@ static void test_causes(void)
     /* Blower 2 is idle up to slot 2: idle in slot 3 as well, it would leave slots 1 to 3 room for 3 feedings, and 4 are
      * forced into them. */
     EXPECT(has_causes(FOUR_SLOTS,
-                      "    2    2    1    3\n"
-                      "    1    0    0    0\n"
-                      "    2    0    0    0\n"
-                      "    3    0    0    0\n"
-                      "    2    3    2    1\n" /* busy to slot 3: ration 2 alone can be fed in slot 4 */
-                      "    4    0    0    0\n"
-                      "    1    0    1    1\n" /* blower 1 busy from slot 1: ration 1 needs it */
-                      "    1    0    0    0\n"));
-    EXPECT(has_causes("    1    2    1    2\n"
-                      "    1    1    1    1\n"
-                      "    2    1    1    1\n",
-                      "    2    0    1    1\n"
-                      "    1    0    0    0\n"
-                      "    1    0    3    1\n" /* blower 2 is busy in slot 1, so blower 1 can't be idle there */
-                      "    1    0    0    0\n"));
-    EXPECT(has_causes("    3    2    0    4\n"
-                      "    1    1    1    1\n"
-                      "    2    1    1    1\n"
-                      "    3    2    3    1\n"
-                      "    4    2    2    1\n",
-                      "    2    0    1    1\n"
-                      "    1    0    0    0\n"
-                      "    2    2    2    2\n" /* slot 3 alone lacks one feeding, slots 2 and 3 together two */
-                      "    2    0    0    0\n"
-                      "    3    0    0    0\n"
-                      "    1    0    3    1\n"
-                      "    1    0    0    0\n"
-                      "    1    2    2    2\n"
-                      "    2    0    0    0\n"
-                      "    3    0    0    0\n"));
-    EXPECT(has_causes("    3    1    4    0\n", "")); /* no stretch ends before the last slot */
+                      "     2     2     1     3\n"
+                      "     1     0     0     0\n"
+                      "     2     0     0     0\n"
+                      "     3     0     0     0\n"
+                      "     2     3     2     1\n" /* busy to slot 3: ration 2 alone can be fed in slot 4 */
+                      "     4     0     0     0\n"
+                      "     1     0     1     1\n" /* blower 1 busy from slot 1: ration 1 needs it */
+                      "     1     0     0     0\n"));
+    EXPECT(has_causes("     1     2     1     2\n"
+                      "     1     1     1     1\n"
+                      "     2     1     1     1\n",
+                      "     2     0     1     1\n"
+                      "     1     0     0     0\n"
+                      "     1     0     3     1\n" /* blower 2 is busy in slot 1, so blower 1 can't be idle there */
+                      "     1     0     0     0\n"));
+    EXPECT(has_causes("     3     2     0     4\n"
+                      "     1     1     1     1\n"
+                      "     2     1     1     1\n"
+                      "     3     2     3     1\n"
+                      "     4     2     2     1\n",
+                      "     2     0     1     1\n"
+                      "     1     0     0     0\n"
+                      "     2     2     2     2\n" /* slot 3 alone lacks one feeding, slots 2 and 3 together two */
+                      "     2     0     0     0\n"
+                      "     3     0     0     0\n"
+                      "     1     0     3     1\n"
+                      "     1     0     0     0\n"
+                      "     1     2     2     2\n"
+                      "     2     0     0     0\n"
+                      "     3     0     0     0\n"));
+    EXPECT(has_causes("     3     1     4     0\n", "")); /* no stretch ends before the last slot */
 
     const size_t whole = KIWIMOUND_CAUSES_BYTES;
     EXPECT(is_without_causes(FOUR_SLOTS, 0, KIWIMOUND_SHORT_BUFFER, 0));
@@ -1058,18 +1138,20 @@ static void test_causes(void)
     }
 }
 
-/* A day of seven blowers whose causes have long sets. Each blower has a ration in slot 1 and in every second slot after
- * slot volume + 1, `stops` of them, in the last only `late` blowers; seven rations of that volume have the whole day.
- * These feed slots 2 to volume + 1, and every busy stretch that ends has all of these in its set, and the slot after
- * it. Gives the sheet's length. */
-static size_t write_long_day(uint8_t sheet[KIWIMOUND_SHEET_BYTES(KIWIMOUND_MAX_RATIONS)], uint32_t volume, uint32_t stops, uint32_t late)
+/* A day of seven blowers whose causes have long sets. Seven rations of some volume have the whole day, and feed all of
+ * slots 2 to volume + 1. Rations of one slot stand seven in a slot, `early` of them in slot 1 and in every second slot
+ * from volume + 3 on as far as they go, and `late` in slot 96. Each of these makes two entries: of two lines, where the
+ * blower's idle stretch ends, and where its busy stretch ends of 2 + volume lines, for all of slots 2 to volume + 1 and
+ * the slot after the stretch; in slot 96 the first alone. Gives the sheet's length. */
+static size_t write_long_day(uint8_t sheet[KIWIMOUND_SHEET_BYTES(KIWIMOUND_MAX_RATIONS)], uint32_t volume,
+                             uint32_t early, uint32_t late)
 {
     const uint32_t blowers = 7;
     uint32_t numbers[4 * KIWIMOUND_MAX_RATIONS], n = 0;
-    for (uint32_t stop = 0; stop <= stops; stop++) {
-        const uint32_t slot = stop == 0 ? 1 : volume + 1 + 2 * stop;
-        for (uint32_t k = 0; k < (stop == stops ? late : blowers); k++, n++)
-            memcpy(numbers + 4 * n, (uint32_t[]){n + 1, slot, slot, 1}, 4 * sizeof *numbers);
+    for (; n < early + late; n++) {
+        const uint32_t stop = n / blowers;
+        const uint32_t slot = n >= early ? KIWIMOUND_MAX_SLOTS : stop == 0 ? 1 : volume + 1 + 2 * stop;
+        memcpy(numbers + 4 * n, (uint32_t[]){n + 1, slot, slot, 1}, 4 * sizeof *numbers);
     }
     for (uint32_t k = 0; k < blowers; k++, n++)
         memcpy(numbers + 4 * n, (uint32_t[]){n + 1, 1, KIWIMOUND_MAX_SLOTS, volume}, 4 * sizeof *numbers);
@@ -1079,34 +1161,161 @@ static size_t write_long_day(uint8_t sheet[KIWIMOUND_SHEET_BYTES(KIWIMOUND_MAX_R
     return w.length;
 }
 
-/* However much is lent, 3,120 lines are listed at most, and no part of an entry. */
+/* However much is lent, 2,621 lines are listed at most, and no part of an entry. All entries of a day have
+ * (volume + 4) * early + 2 * late lines. */
 static void test_causes_cut(void)
 {
     static const struct {
-        uint32_t volume, stops, late;
+        uint32_t volume, early, late;
         size_t lines;
         bool cut;
     } days[] = {
-        {61, 6, 6, 3120, false}, /* as many lines as there is room for */
-        {61, 6, 7, 3120, true},  /* so many, and one entry more */
-        {85, 5, 2, 3119, false},
-        {85, 5, 3, 3119, true}, /* the last entry, of two lines, would be one too many */
-        {85, 5, 4, 3034, true}, /* an entry of 87 lines does not fit, the one of two lines after it would */
+        {63, 39, 4, 2621, false}, /* as many lines as there is room for */
+        {63, 39, 5, 2621, true},  /* so many, and one entry more */
+        {73, 34, 1, 2620, false},
+        {73, 34, 2, 2620, true}, /* the last entry, of two lines, would be one too many */
+        {73, 34, 3, 2547, true}, /* an entry of 75 lines does not fit, the one of two lines after it would */
     };
     static const char opening[] =
-        "    7    0    1    1\n"
-        "    1    0    0    0\n";
+        "     7     0     1     1\n"
+        "     1     0     0     0\n";
     static uint8_t sheet[KIWIMOUND_SHEET_BYTES(KIWIMOUND_MAX_RATIONS)];
-    EXPECT(KIWIMOUND_CAUSES_BYTES / KIWIMOUND_LINE_BYTES == 3120);
+    EXPECT(KIWIMOUND_CAUSES_BYTES / KIWIMOUND_LINE_BYTES == 2621);
     for (size_t i = 0; i < sizeof days / sizeof *days; i++)
         for (size_t lent = KIWIMOUND_CAUSES_BYTES; lent <= sizeof causes; lent += KIWIMOUND_CAUSES_BYTES) {
-            const size_t length = write_long_day(sheet, days[i].volume, days[i].stops, days[i].late);
+            const size_t length = write_long_day(sheet, days[i].volume, days[i].early, days[i].late);
             guard();
             const kiwimound_causes_answer a = kiwimound_causes(sheet, length, causes, lent);
             EXPECT(a.number == 0 && a.line == 0 && a.cut == days[i].cut);
             EXPECT(a.length == days[i].lines * KIWIMOUND_LINE_BYTES && kept(causes, sizeof causes, a.length));
             EXPECT(memcmp(causes, opening, sizeof opening - 1) == 0);
         }
+}
+
+/* The sizes and limits of request 110, and what stayed. */
+static void test_sizes(void)
+{
+    EXPECT(KIWIMOUND_VERSION == 2 && kiwimound_version_2() == KIWIMOUND_VERSION);
+    EXPECT(KIWIMOUND_FIELD_COLUMNS == 6 && KIWIMOUND_LINE_BYTES == 4 * KIWIMOUND_FIELD_COLUMNS + 1);
+    EXPECT(KIWIMOUND_LISTING_BYTES == 38455 && KIWIMOUND_PRACTICE_BYTES == 1625 && KIWIMOUND_SHEET_BYTES(64) == 1625);
+    EXPECT(KIWIMOUND_MAX_WAKE == 2000 && KIWIMOUND_MAX_TANK == 250000);
+    EXPECT(KIWIMOUND_MAX_SHEET_BYTES == 65520 && KIWIMOUND_CAUSES_BYTES == 65536 && KIWIMOUND_PLACING_WORDS == 96);
+
+    guard(); /* its bytes are neither blanks nor digits, so that a length that passes gives 2 */
+    static const struct {
+        size_t length;
+        uint32_t number, line;
+    } lengths[] = {
+        {0, KIWIMOUND_BAD_LENGTH, 0},     {21, KIWIMOUND_BAD_LENGTH, 0},    {24, KIWIMOUND_BAD_LENGTH, 0},
+        {25, KIWIMOUND_BAD_FIELD, 1},     {26, KIWIMOUND_BAD_LENGTH, 0},    {65500, KIWIMOUND_BAD_FIELD, 1},
+        {65520, KIWIMOUND_BAD_LENGTH, 0}, {65525, KIWIMOUND_BAD_LENGTH, 0}, {131050, KIWIMOUND_BAD_LENGTH, 0},
+    };
+    for (size_t i = 0; i < sizeof lengths / sizeof *lengths; i++) {
+        const kiwimound_reading r = kiwimound_read(causes, lengths[i].length);
+        EXPECT(r.number == lengths[i].number && r.line == lengths[i].line);
+    }
+    const size_t few[] = {32303, 38430, 38454}; /* that of five columns, one without the bill, one byte too few */
+    for (size_t i = 0; i < sizeof few / sizeof *few; i++) {
+        const kiwimound_planned p = kiwimound_plan(LEND(FOUR_SLOTS), listing, few[i]);
+        EXPECT(p.number == KIWIMOUND_SHORT_BUFFER && p.line == 0 && p.length == 0);
+        EXPECT(kept(listing, sizeof listing, 0));
+    }
+    const kiwimound_planned p = kiwimound_plan(LEND(FOUR_SLOTS), listing, 38455);
+    EXPECT(p.number == 0 && p.line == 0 && is_listing(p, FOUR_SLOTS_PLAN));
+}
+
+/* Tanks up to 250,000 and wake costs up to 2,000. */
+static void test_site_tanks(void)
+{
+    static const uint32_t numbers[16] = {101004, 1, 2, 2, 101005, 6, 8, 2, 249912, 1, 3, 1, 250000, 7, 8, 2};
+    static const kiwimound_ration rations[4] = {{101004, 1, 2, 2}, {101005, 6, 8, 2}, {249912, 1, 3, 1},
+                                                {250000, 7, 8, 2}};
+    static const uint64_t words[KIWIMOUND_PLACING_WORDS] = {1, 1, 4, 0, 0, 2, 8, 2 | 8};
+    const size_t length = sizeof SITE_TANKS - 1;
+    const kiwimound_reading r = kiwimound_read(LEND(SITE_TANKS));
+    EXPECT(r.number == 0 && r.line == 0 && r.slots == 8 && r.blowers == 2 && r.wake == 1500 && r.rations == 4);
+    EXPECT(memcmp(r.numbers, numbers, sizeof numbers) == 0);
+    guard();
+    kiwimound_written w = kiwimound_write(8, 2, 1500, 4, numbers, 16, listing, length);
+    EXPECT(w.number == 0 && w.length == length && memcmp(listing, SITE_TANKS, length) == 0);
+    EXPECT(kept(listing, sizeof listing, length));
+    guard();
+    w = kiwimound_write_rations(8, 2, 1500, rations, 4, listing, length);
+    EXPECT(w.number == 0 && w.length == length && memcmp(listing, SITE_TANKS, length) == 0);
+    kiwimound_part part = kiwimound_find(LEND(SITE_TANKS), 250000);
+    EXPECT(part.start == 4 * KIWIMOUND_LINE_BYTES && part.length == KIWIMOUND_LINE_BYTES);
+    part = kiwimound_find(LEND(SITE_TANKS), 101006);
+    EXPECT(part.start == 0 && part.length == 0);
+    guard();
+    kiwimound_planned p = kiwimound_plan_both(LEND(SITE_TANKS), listing, sizeof listing, placing, LENT_WORDS);
+    EXPECT(p.number == 0 && p.line == 0 && is_listing(p, SITE_TANKS_PLAN) && is_placing(words));
+    guard();
+    p = kiwimound_plan_rations(8, 2, 1500, rations, 4, listing, sizeof listing);
+    EXPECT(p.number == 0 && p.line == 0 && is_listing(p, SITE_TANKS_PLAN));
+    EXPECT(has_causes(SITE_TANKS,
+                      "     2     7     1     2\n" /* slots 7 and 8 have three feedings, one blower makes two */
+                      "     7     0     0     0\n"
+                      "     8     0     0     0\n"
+                      "     1     0     1     1\n" /* tank 101004 needs slot 1 */
+                      "     1     0     0     0\n"
+                      "     1     3     2     1\n" /* no tank has slot 4 */
+                      "     4     0     0     0\n"
+                      "     1     5     1     2\n" /* without slot 6, slot 7 would have both tanks */
+                      "     6     0     0     0\n"
+                      "     7     0     0     0\n"));
+
+    /* The greatest tank, and those after it; a field takes 999,999. */
+    static const char tank_250000[] = "     1     1  2000     1\n250000     1     1     1\n";
+    EXPECT(is_planned(tank_250000,
+                      "PLAN\n"
+                      "  2001     1     1     1\n"
+                      "     1     1     1     2\n"
+                      "     1     1250000     1\n"
+                      "    36     2     0     0\n"));
+    static const char *const tanks[] = {"     1     1  2000     1\n250001     1     1     1\n",
+                                        "     1     1  2000     1\n999999     1     1     1\n"};
+    for (size_t i = 0; i < sizeof tanks / sizeof *tanks; i++)
+        EXPECT(is_refused(tanks[i], KIWIMOUND_BAD_TANK, 2));
+    EXPECT(is_refused("     1     1  2001     0\n", KIWIMOUND_BAD_WAKE, 1));
+    EXPECT(is_refused("     1     1999999     0\n", KIWIMOUND_BAD_WAKE, 1));
+    /* Without a sheet's columns, numbers go up to 32 bits. */
+    static const uint32_t beyond[] = {250001, 999999, 1000000, UINT32_MAX};
+    guard();
+    for (size_t i = 0; i < sizeof beyond / sizeof *beyond; i++) {
+        const uint32_t bad[4] = {beyond[i], 1, 1, 1};
+        w = kiwimound_write(1, 1, 2000, 1, bad, 4, listing, sizeof listing);
+        EXPECT(w.number == KIWIMOUND_BAD_TANK && w.line == 2 && w.length == 0);
+        p = kiwimound_plan_rations(1, 1, 2000, &(const kiwimound_ration){beyond[i], 1, 1, 1}, 1, listing,
+                                   sizeof listing);
+        EXPECT(p.number == KIWIMOUND_BAD_TANK && p.line == 2 && p.length == 0);
+        w = kiwimound_write(1, 1, beyond[i], 0, bad, 0, listing, sizeof listing);
+        EXPECT(w.number == KIWIMOUND_BAD_WAKE && w.line == 1 && w.length == 0);
+    }
+    EXPECT(kept(listing, sizeof listing, 0));
+
+    /* Plans are ordered by the tanks' numbers and not by their digits. */
+    static const char tank_9[] = "     1     1  2000     1\n     9     1     1     1\n";
+    static const char tank_99999[] = "     1     1  2000     1\n 99999     1     1     1\n";
+    EXPECT(is_compared(tank_9, tank_99999, 0, 0, KIWIMOUND_ORDER_BEFORE));
+    EXPECT(is_compared(tank_99999, tank_250000, 0, 0, KIWIMOUND_ORDER_BEFORE));
+    EXPECT(is_compared(tank_250000, tank_9, 0, 0, KIWIMOUND_ORDER_AFTER));
+}
+
+/* A sheet of version 1, with lines of 21 bytes, is refused by its length; where 25 divides that, by its first line,
+ * whose byte 10 is in a field. */
+static void test_five_columns(void)
+{
+    static char sheet[21 * (KIWIMOUND_MAX_RATIONS + 1) + 1];
+    unsigned by_field = 0;
+    for (unsigned lines = 1; lines <= KIWIMOUND_MAX_RATIONS + 1; lines++) {
+        for (unsigned i = 0; i < lines; i++)
+            sprintf(sheet + 21 * i, "%5u%5u%5u%5u\n", i == 0 ? 96 : i, i == 0 ? 8 : 1, i == 0 ? 5 : 96,
+                    i == 0 ? lines - 1 : 1);
+        const bool is_divided = 21 * lines % 25 == 0;
+        EXPECT(is_refused(sheet, is_divided ? KIWIMOUND_BAD_FIELD : KIWIMOUND_BAD_LENGTH, is_divided));
+        by_field += is_divided;
+    }
+    EXPECT(by_field == 2); /* 25 lines and 50 */
 }
 
 /* The calls on records: document 01's first sheet, the held one, one whose second window is faulty, and two with
@@ -1185,6 +1394,9 @@ int main(void)
     test_compare_every_ration();
     test_causes();
     test_causes_cut();
+    test_sizes();
+    test_site_tanks();
+    test_five_columns();
     test_records();
     printf(failures == 0 ? "tests.c: ok\n" : "tests.c: FAILED\n");
     return failures != 0;

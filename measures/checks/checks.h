@@ -66,7 +66,13 @@ enum fate { ABSENT, PLANNED, HELD, REFUSED };
  * of each hall, in two bits. */
 uint32_t check_halls(const uint8_t *sheet, size_t size, uint32_t choice);
 
+/* The four numbers of a line, where writing them gives the line again; else no. */
+bool numbers_of(const uint8_t *line, uint32_t numbers[4]);
+
 /* The four numbers of a line that the library wrote; it must be in the stated form. */
 void read_line(const uint8_t *line, uint32_t numbers[4]);
+
+/* Writes four numbers as a line. */
+void put_line(uint8_t *line, const uint32_t numbers[4]);
 
 #endif

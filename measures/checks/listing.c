@@ -3,19 +3,9 @@
 #include "lent.h"
 
 #include <stdbool.h>
-#include <stdio.h>
 #include <string.h>
 
 enum { LINE = KIWIMOUND_LINE_BYTES, WORD = 5 };
-
-void read_line(const uint8_t *line, uint32_t numbers[4]) {
-    char text[LINE + 1] = {0};
-    memcpy(text, line, LINE);
-    if (sscanf(text, "%5u%5u%5u%5u", &numbers[0], &numbers[1], &numbers[2], &numbers[3]) != 4) fail("a line without four numbers");
-    char again[64];
-    snprintf(again, sizeof again, "%5u%5u%5u%5u\n", numbers[0], numbers[1], numbers[2], numbers[3]);
-    if (strcmp(text, again)) fail("a line in another form");
-}
 
 /* A line of a listing after its opening word. */
 static void line_at(const uint8_t *listing, size_t line, uint32_t numbers[4]) {

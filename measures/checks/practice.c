@@ -2,7 +2,6 @@
 #include "checks.h"
 #include "lent.h"
 
-#include <stdio.h>
 #include <string.h>
 
 enum { LINE = KIWIMOUND_LINE_BYTES, MOST = KIWIMOUND_MAX_RATIONS, LONGEST = KIWIMOUND_PRACTICE_BYTES };
@@ -34,10 +33,7 @@ uint32_t check_practice(uint32_t seed) {
     draw_day(seed, head, flat);
     if (refusal_of(head, flat, 4 * (size_t)head[3]).number) fail("a practice sheet that is refused");
     for (uint32_t i = 0; i <= head[3]; i++) {
-        const uint32_t *v = i ? flat + 4 * (i - 1) : head;
-        char line[64];
-        snprintf(line, sizeof line, "%5u%5u%5u%5u\n", v[0], v[1], v[2], v[3]);
-        memcpy(sheet + LINE * i, line, LINE);
+        put_line(sheet + LINE * i, i ? flat + 4 * (i - 1) : head);
     }
     size_t least = KIWIMOUND_SHEET_BYTES(head[3]);
     size_t sizes[] = {0, least - LINE, least - 1, least, least + 1, LONGEST, LONGEST + 30};

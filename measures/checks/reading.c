@@ -3,35 +3,20 @@
 #include "lent.h"
 
 #include <stdbool.h>
-#include <stdio.h>
-#include <stdlib.h>
 #include <string.h>
 
 enum { LINE = KIWIMOUND_LINE_BYTES };
 
-/* The four numbers of a line, if writing them gives the line again. */
-static bool numbers_of(const uint8_t *line, uint32_t numbers[4]) {
-    char text[LINE + 1];
-    for (int i = 0; i < 4; i++) {
-        char field[6] = {0};
-        memcpy(field, line + 5 * i, 5);
-        numbers[i] = (uint32_t)strtoul(field, NULL, 10);
-        if (numbers[i] > 99999) return false;
-    }
-    snprintf(text, sizeof text, "%5u%5u%5u%5u\n", numbers[0], numbers[1], numbers[2], numbers[3]);
-    return memcmp(text, line, LINE) == 0;
-}
-
 static bool within(uint32_t low, uint32_t value, uint32_t high) { return low <= value && value <= high; }
 
 struct refusal refusal_of(const uint32_t head[4], const uint32_t *flat, size_t count) {
-    if (!within(1, head[0], 96)) return (struct refusal){3, 1};
-    if (!within(1, head[1], 8)) return (struct refusal){4, 1};
-    if (head[2] > 200) return (struct refusal){5, 1};
-    if (head[3] > 64 || count != 4 * head[3]) return (struct refusal){6, 1};
+    if (!within(1, head[0], KIWIMOUND_MAX_SLOTS)) return (struct refusal){3, 1};
+    if (!within(1, head[1], KIWIMOUND_MAX_BLOWERS)) return (struct refusal){4, 1};
+    if (head[2] > KIWIMOUND_MAX_WAKE) return (struct refusal){5, 1};
+    if (head[3] > KIWIMOUND_MAX_RATIONS || count != 4 * head[3]) return (struct refusal){6, 1};
     uint32_t tank = 1, end = 0; /* of the line before */
     for (uint32_t i = 0; i < head[3]; i++, flat += 4) {
-        if (!within(tank, flat[0], 999)) return (struct refusal){7, i + 2};
+        if (!within(tank, flat[0], KIWIMOUND_MAX_TANK)) return (struct refusal){7, i + 2};
         if (!within(1, flat[1], flat[2]) || flat[2] > head[0]) return (struct refusal){8, i + 2};
         if (!within(1, flat[3], flat[2] - flat[1] + 1)) return (struct refusal){9, i + 2};
         if (flat[0] == tank && flat[1] <= end) return (struct refusal){13, i + 2};
@@ -99,7 +84,7 @@ uint32_t check_reading(const uint8_t *bytes, size_t size, uint32_t choice) {
     bool accepted = r.number == 0;
     if (memcmp(numbers, accepted ? head : zeros, sizeof numbers)) fail("read gives another head line");
     if (memcmp(r.numbers, accepted ? flat : zeros, sizeof r.numbers)) fail("read gives other rations");
-    check_find(sheet, size, choice % 1001, expected, head, flat);
+    check_find(sheet, size, choice % (KIWIMOUND_MAX_TANK + 2), expected, head, flat);
     check_find(sheet, size, flat[4 * (choice % 64)], expected, head, flat);
     check_find(sheet, size, choice, expected, head, flat);
     take_back(SHEET, size);

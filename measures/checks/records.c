@@ -3,7 +3,6 @@
 #include "lent.h"
 
 #include <stdbool.h>
-#include <stdio.h>
 #include <string.h>
 
 enum { LINE = KIWIMOUND_LINE_BYTES, SLOTS = KIWIMOUND_MAX_SLOTS, MOST = KIWIMOUND_MAX_RATIONS + 2 };
@@ -38,12 +37,7 @@ static void choose(struct day *day, const kiwimound_reading *r, uint32_t choice)
     day->refusal = refusal_of(head, day->flat, 4 * (size_t)head[3]);
     if (day->refusal.number) return;
     day->size = KIWIMOUND_SHEET_BYTES(head[3]);
-    for (uint32_t i = 0; i <= head[3]; i++) {
-        const uint32_t *v = i ? day->flat + 4 * (i - 1) : head;
-        char line[64];
-        snprintf(line, sizeof line, "%5u%5u%5u%5u\n", v[0], v[1], v[2], v[3]);
-        memcpy(day->sheet + LINE * i, line, LINE);
-    }
+    for (uint32_t i = 0; i <= head[3]; i++) put_line(day->sheet + LINE * i, i ? day->flat + 4 * (i - 1) : head);
 }
 
 /* What planning answered and wrote. */

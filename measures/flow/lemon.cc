@@ -33,10 +33,13 @@ struct Sheet {
   std::vector<Ration> rations;
 };
 
-int field(const char* at) { return std::atoi(std::string(at, 5).c_str()); }
+// Columns of a field, and bytes of a line: four fields and byte 10.
+constexpr int width = 6, line_bytes = 4 * width + 1;
+
+int field(const char* at) { return std::atoi(std::string(at, width).c_str()); }
 
 Sheet read(const std::string& bytes) {
-  auto number = [&](int line, int column) { return field(bytes.data() + 21 * line + 5 * column); };
+  auto number = [&](int line, int column) { return field(bytes.data() + line_bytes * line + width * column); };
   Sheet sheet{number(0, 0), number(0, 1), number(0, 2), {}};
   for (int line = 1; line <= number(0, 3); line++)
     sheet.rations.push_back({number(line, 0), number(line, 1) - 1, number(line, 2) - 1, number(line, 3)});
@@ -226,8 +229,8 @@ int rate(int slot) {
 }
 
 void put_line(std::string& text, int a, int b, int c, int d) {
-  char line[32];
-  std::snprintf(line, sizeof line, "%5d%5d%5d%5d\n", a, b, c, d);
+  char line[line_bytes + 1];
+  std::snprintf(line, sizeof line, "%*d%*d%*d%*d\n", width, a, width, b, width, c, width, d);
   text += line;
 }
 

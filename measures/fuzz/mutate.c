@@ -1,10 +1,15 @@
 #include "mutate.h"
 
-#include <stdio.h>
+#include "checks.h"
+
 #include <stdlib.h>
 #include <string.h>
 
-enum { LINE = 21, MOST_RATIONS = 66 };
+enum { COLUMNS = KIWIMOUND_FIELD_COLUMNS, LINE = KIWIMOUND_LINE_BYTES, MOST_RATIONS = 66, TOO_WIDE = 1000000 };
+
+enum { SLOTS = KIWIMOUND_MAX_SLOTS, BLOWERS = KIWIMOUND_MAX_BLOWERS, WAKE = KIWIMOUND_MAX_WAKE };
+
+enum { RATIONS = KIWIMOUND_MAX_RATIONS, TANK = KIWIMOUND_MAX_TANK };
 
 static uint32_t state;
 
@@ -23,23 +28,30 @@ struct sheet {
 };
 
 static uint32_t field(const uint8_t *at) {
-    char text[6] = {0};
-    memcpy(text, at, 5);
-    return (uint32_t)strtoul(text, NULL, 10) % 100000;
+    char text[COLUMNS + 1] = {0};
+    memcpy(text, at, COLUMNS);
+    return (uint32_t)strtoul(text, NULL, 10) % TOO_WIDE;
 }
 
 static void parse(struct sheet *s, const uint8_t *bytes, size_t size) {
     memset(s, 0, sizeof *s);
     for (size_t i = 0; i < size / LINE && i <= MOST_RATIONS; i++)
-        for (size_t f = 0; f < 4; f++) (i ? s->rations[i - 1] : s->head)[f] = field(bytes + LINE * i + 5 * f);
+        for (size_t f = 0; f < 4; f++) (i ? s->rations[i - 1] : s->head)[f] = field(bytes + LINE * i + COLUMNS * f);
     size_t n = size / LINE ? size / LINE - 1 : 0;
     s->head[3] = n > MOST_RATIONS ? MOST_RATIONS : (uint32_t)n;
+}
+
+/* A wake cost: mostly one that is less than a stretch may be long. */
+static uint32_t draw_wake(void) {
+    static const uint32_t wakes[] = {10, 10, 200, WAKE};
+    return between(0, wakes[below(4)]);
 }
 
 /* A ration somewhere in the day. */
 static void draw_ration(const struct sheet *s, uint32_t ration[4]) {
     uint32_t day = s->head[0] ? s->head[0] : 1;
-    ration[0] = between(1, below(2) ? 999 : 20);
+    static const uint32_t tanks[] = {20, 20, 999, TANK};
+    ration[0] = between(1, tanks[below(4)]);
     ration[1] = between(1, day);
     ration[2] = between(ration[1], day);
     ration[3] = between(1, ration[2] - ration[1] + 1);
@@ -47,10 +59,10 @@ static void draw_ration(const struct sheet *s, uint32_t ration[4]) {
 }
 
 static void draw_sheet(struct sheet *s) {
-    s->head[0] = below(3) ? between(1, 96) : 96;
-    s->head[1] = between(1, 8);
-    s->head[2] = below(2) ? below(10) : below(201);
-    s->head[3] = below(3) ? below(65) : below(8);
+    s->head[0] = below(3) ? between(1, SLOTS) : SLOTS;
+    s->head[1] = between(1, BLOWERS);
+    s->head[2] = draw_wake();
+    s->head[3] = below(3) ? between(0, RATIONS) : below(8);
     for (uint32_t i = 0; i < s->head[3]; i++) draw_ration(s, s->rations[i]);
 }
 
@@ -58,9 +70,9 @@ static void change(struct sheet *s) {
     uint32_t n = s->head[3];
     uint32_t *ration = s->rations[n ? below(n) : 0];
     switch (below(15)) {
-        case 0: s->head[0] = between(1, 96); break;
-        case 1: s->head[1] = between(1, 8); break;
-        case 2: s->head[2] = below(2) ? below(10) : below(201); break;
+        case 0: s->head[0] = between(1, SLOTS); break;
+        case 1: s->head[1] = between(1, BLOWERS); break;
+        case 2: s->head[2] = draw_wake(); break;
         case 3: draw_ration(s, ration); break;
         case 4: ration[1] = 1; ration[2] = s->head[0]; break;
         case 5: ration[3] = ration[2] - ration[1] + 1; break;
@@ -97,15 +109,15 @@ static void clamp(uint32_t *value, uint32_t low, uint32_t high) {
 /* Puts every number into its range. A meal that would begin before the one before it ends begins after it or, where the day is over then, goes to the
  * next tank; each ration leaves those after it a tank above it for that. */
 static void repair(struct sheet *s) {
-    clamp(&s->head[0], 1, 96);
-    clamp(&s->head[1], 1, 8);
-    clamp(&s->head[2], 0, 200);
-    clamp(&s->head[3], 0, 64);
+    clamp(&s->head[0], 1, SLOTS);
+    clamp(&s->head[1], 1, BLOWERS);
+    clamp(&s->head[2], 0, WAKE);
+    clamp(&s->head[3], 0, RATIONS);
     qsort(s->rations, s->head[3], sizeof s->rations[0], by_meal);
     uint32_t tank = 1, end = 0; /* of the ration before */
     for (uint32_t i = 0; i < s->head[3]; i++) {
         uint32_t *r = s->rations[i];
-        clamp(&r[0], tank, 999 - (s->head[3] - 1 - i));
+        clamp(&r[0], tank, TANK - (s->head[3] - 1 - i));
         if (r[0] == tank && end == s->head[0]) r[0]++;
         clamp(&r[1], r[0] == tank ? end + 1 : 1, s->head[0]);
         clamp(&r[2], r[1], s->head[0]);
@@ -136,10 +148,9 @@ size_t mutate_sheet(uint8_t *bytes, size_t size, size_t most, unsigned int seed)
     size_t lines = s.head[3] + 1;
     if (lines > most / LINE) lines = most / LINE;
     for (size_t i = 0; i < lines; i++) {
-        const uint32_t *v = i ? s.rations[i - 1] : s.head;
-        char line[64];
-        snprintf(line, sizeof line, "%5u%5u%5u%5u\n", v[0] % 100000, v[1] % 100000, v[2] % 100000, v[3] % 100000);
-        memcpy(bytes + LINE * i, line, LINE);
+        uint32_t *v = i ? s.rations[i - 1] : s.head;
+        for (size_t f = 0; f < 4; f++) v[f] %= TOO_WIDE;
+        put_line(bytes + LINE * i, v);
     }
     return LINE * lines;
 }

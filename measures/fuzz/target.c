@@ -6,6 +6,8 @@
 
 #include <string.h>
 
+enum { LINE = KIWIMOUND_LINE_BYTES };
+
 /* The library has no counters for libFuzzer to follow, so what its answers come to is counted instead: a new kind of
  * answer keeps the input. */
 __attribute__((used, section("__libfuzzer_extra_counters"))) static uint8_t reached[4096];
@@ -36,7 +38,7 @@ int LLVMFuzzerTestOneInput(const uint8_t *data, size_t size) {
     reach(300 + o.feeds / 8);
     reach(500 + o.shown);
     reach(700 + o.energy / 16);
-    reach(2000 + o.cents / 4);
+    reach(2000 + o.cents / 48);
     reach(3300 + o.causes / 8);
     reach(3700 + check_halls(sheet, size, choice)); /* below 256 */
 #endif
@@ -45,9 +47,9 @@ int LLVMFuzzerTestOneInput(const uint8_t *data, size_t size) {
 
 /* A sheet near the longest that is read: its lines again and again. */
 static size_t lengthen(uint8_t *sheet, size_t size, size_t most, unsigned int seed) {
-    size_t longest = KIWIMOUND_MAX_SHEET_BYTES - 21 + seed / 64 % 64;
-    if (size < 21 || longest > most) return size;
-    for (size_t i = size; i < longest; i++) sheet[i] = sheet[i - size + size % 21];
+    size_t longest = KIWIMOUND_MAX_SHEET_BYTES - LINE + seed / 64 % 64;
+    if (size < LINE || longest > most) return size;
+    for (size_t i = size; i < longest; i++) sheet[i] = sheet[i - size + size % LINE];
     return longest;
 }
 
@@ -59,7 +61,7 @@ size_t LLVMFuzzerCustomMutator(uint8_t *data, size_t size, size_t most, unsigned
 #else
     const unsigned int plain = 6;
 #endif
-    if (size < 4 || most < 4 + 21 || seed % plain == 0) return LLVMFuzzerMutate(data, size, most);
+    if (size < 4 || most < 4 + LINE || seed % plain == 0) return LLVMFuzzerMutate(data, size, most);
     if (seed % 64 == 3) return 4 + lengthen(data + 4, size - 4, most - 4, seed);
     if (seed % 16 == 1) data[seed / 16 % 4] = (uint8_t)(seed >> 8);
     return 4 + mutate_sheet(data + 4, size - 4, most - 4, seed);

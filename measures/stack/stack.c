@@ -25,7 +25,7 @@ static void write_sheet(void) {
     kiwimound_write(reading.slots, reading.blowers, reading.wake, reading.rations, reading.numbers, 4 * reading.rations, out, sizeof out);
 }
 static void practice(void) { kiwimound_practice(seed, out, sizeof out); }
-static void find(void) { kiwimound_find(sheet, size, 999); }
+static void find(void) { kiwimound_find(sheet, size, KIWIMOUND_MAX_TANK); }
 static void plan(void) { kiwimound_plan(sheet, size, listing, sizeof listing); }
 static void plan_placing(void) { kiwimound_plan_placing(sheet, size, placing, KIWIMOUND_PLACING_WORDS); }
 static void plan_both(void) {

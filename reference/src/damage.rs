@@ -2,25 +2,29 @@
 
 use crate::draws::Draws;
 use crate::generate::{any_sheet, Sizes};
-use crate::sheet::{field_value, line_text, FIELD, LINE};
+use crate::sheet::{field_text, field_value, line_text, FIELD, LINE};
 
 /// Bytes that a fault in a field may show.
 const ODD_BYTES: [u8; 14] = [0, 9, 10, 13, 32, 43, 45, 47, 48, 49, 57, 58, 128, 255];
 
 /// Values at and beyond the limits of the fields.
-const ODD_VALUES: [u32; 16] = [
-    0, 1, 2, 8, 9, 63, 64, 65, 96, 97, 200, 201, 999, 1000, 65_536, 99_999,
+const ODD_VALUES: [u32; 23] = [
+    0, 1, 2, 8, 9, 63, 64, 65, 96, 97, 200, 201, 999, 1_000, 1_999, 2_000, 2_001, 65_536, 99_999,
+    100_000, 250_000, 250_001, 999_999,
 ];
 
-/// Damages a sheet's bytes in one place: a byte, the length, a field, the order of lines
-/// or a meal. The damage may happen to leave a good sheet.
+/// The least number that no field holds.
+const TOO_WIDE: u32 = 10_u32.pow(FIELD as u32);
+
+/// Damages a sheet's bytes in one place: a byte, the length, a field, the order of lines,
+/// a meal or the columns. The damage may happen to leave a good sheet.
 pub fn damage(draws: &mut Draws, bytes: &mut Vec<u8>) {
     let lines = bytes.len() / LINE;
     if lines == 0 {
         bytes.push(draws.below(256) as u8);
         return;
     }
-    match draws.below(10) {
+    match draws.below(11) {
         0 => {
             let at = draws.index(bytes.len());
             bytes[at] = ODD_BYTES[draws.index(ODD_BYTES.len())];
@@ -40,7 +44,11 @@ pub fn damage(draws: &mut Draws, bytes: &mut Vec<u8>) {
         }
         4 | 5 => {
             let value = ODD_VALUES[draws.index(ODD_VALUES.len())];
-            put_field(bytes, draws.index(lines), draws.index(4), value);
+            let line = match draws.one_in(4) {
+                true => 0,
+                false => draws.index(lines),
+            };
+            put_field(bytes, line, draws.index(4), value);
         }
         6 => {
             let (a, b) = (draws.index(lines) * LINE, draws.index(lines) * LINE);
@@ -57,8 +65,31 @@ pub fn damage(draws: &mut Draws, bytes: &mut Vec<u8>) {
                 bytes.splice(at..at, line_text(values));
             }
         }
+        8 if draws.one_in(4) => *bytes = five_columns(bytes),
+        8 => shift_columns(draws, bytes),
         _ => damage_meal(draws, bytes),
     }
+}
+
+/// The whole lines of a sheet as they were before request 110: a column less in each field,
+/// so that the first one is lost.
+pub fn five_columns(bytes: &[u8]) -> Vec<u8> {
+    let lines = bytes.chunks_exact(LINE);
+    let old_line = |line: &[u8]| -> Vec<u8> {
+        let (fields, end) = line.split_at(LINE - 1);
+        let old_fields = fields.chunks(FIELD).flat_map(|field| &field[1..]);
+        old_fields.chain(end).copied().collect()
+    };
+    lines.flat_map(old_line).collect()
+}
+
+/// Takes a byte out of a line and puts a blank or a digit in elsewhere, so that the columns
+/// between the two are moved by one.
+fn shift_columns(draws: &mut Draws, bytes: &mut Vec<u8>) {
+    let line = draws.index(bytes.len() / LINE) * LINE;
+    bytes.remove(line + draws.index(LINE));
+    let byte = b"  01"[draws.index(4)];
+    bytes.insert(line + draws.index(LINE), byte);
 }
 
 /// Sets a line's tank, or its first slot, near to what the line before has there: the
@@ -86,11 +117,10 @@ pub fn damage_meal(draws: &mut Draws, bytes: &mut [u8]) {
     }
 }
 
-/// Puts a number, cut to five digits, into a field of a line, both counted from 0.
+/// Puts a number, cut to what a field holds, into a field of a line, both counted from 0.
 fn put_field(bytes: &mut [u8], line: usize, field: usize, value: u32) {
     let at = line * LINE + field * FIELD;
-    let text = format!("{:>5}", value % 100_000);
-    bytes[at..at + FIELD].copy_from_slice(text.as_bytes());
+    bytes[at..at + FIELD].copy_from_slice(&field_text(value % TOO_WIDE));
 }
 
 /// The bytes of a sheet, damaged in one to three places.
@@ -100,4 +130,57 @@ pub fn damaged_sheet(draws: &mut Draws, limits: Sizes) -> Vec<u8> {
         damage(draws, &mut bytes);
     }
     bytes
+}
+
+#[cfg(test)]
+mod tests {
+    use super::*;
+    use crate::generate::{FULL, SMALL};
+    use crate::sheet::read;
+
+    #[test]
+    fn five_columns_by_hand() {
+        let bytes = [
+            line_text([4, 2, 200, 1]),
+            line_text([250_000, 1, 99_999, 2]),
+        ]
+        .concat();
+        let old = b"    4    2  200    1\n50000    199999    2\n";
+        assert_eq!(five_columns(&bytes), old);
+        assert_eq!(five_columns(&bytes[..LINE - 1]), b"");
+    }
+
+    /// Whatever a sheet held, in five columns it is refused: by its length or, where whole
+    /// lines of six columns are as long, because its first line has no closing byte.
+    #[test]
+    fn no_sheet_in_five_columns_is_read() {
+        let mut draws = Draws::new(10);
+        let mut numbers = [0; 3];
+        for _ in 0..1_000 {
+            let old = five_columns(&any_sheet(&mut draws, FULL).text());
+            let refusal = read(&old).expect_err("five columns");
+            let expected = if old.len().is_multiple_of(LINE) {
+                (2, 1)
+            } else {
+                (1, 0)
+            };
+            assert_eq!((refusal.number, refusal.line), expected);
+            numbers[refusal.number as usize] += 1;
+        }
+        assert!(numbers[1] > 900 && numbers[2] > 10, "{numbers:?}");
+    }
+
+    /// Every refusal of a sheet is there, and some sheets that are good all the same.
+    #[test]
+    fn every_number_is_there() {
+        let mut draws = Draws::new(11);
+        let mut numbers = [0; 14];
+        for _ in 0..2_000 {
+            let number = read(&damaged_sheet(&mut draws, SMALL)).map_or_else(|r| r.number, |_| 0);
+            numbers[number as usize] += 1;
+        }
+        for number in [0, 1, 2, 3, 4, 5, 6, 7, 8, 9, 13] {
+            assert!(numbers[number] > 5, "{number}: {numbers:?}");
+        }
+    }
 }

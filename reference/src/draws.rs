@@ -19,9 +19,13 @@ impl Draws {
         self.state >> 16
     }
 
-    /// A number from 0 to `bound` − 1; `bound` is 1 to 65,536.
+    /// A number from 0 to `bound` − 1, of one draw; of two where one has too few values.
     pub fn below(&mut self, bound: u32) -> u32 {
-        self.draw() % bound
+        let draw = self.draw();
+        if bound <= 1 << 16 {
+            return draw % bound;
+        }
+        (draw << 16 | self.draw()) % bound
     }
 
     /// A number from `low` to `high`, both included.
@@ -37,5 +41,29 @@ impl Draws {
     /// True once in `bound` draws.
     pub fn one_in(&mut self, bound: u32) -> bool {
         self.below(bound) == 0
+    }
+}
+
+#[cfg(test)]
+mod tests {
+    use super::*;
+
+    /// Up to 65,536 values are had from one draw, and more from two.
+    #[test]
+    fn narrow_and_wide_draws() {
+        let (mut one, mut two) = (Draws::new(1), Draws::new(1));
+        assert_eq!(one.below(1 << 16), two.draw());
+        assert_eq!(one.below(7), two.draw() % 7);
+        assert_eq!(
+            one.below(250_000),
+            (two.draw() * 65_536 + two.draw()) % 250_000
+        );
+        assert_eq!(one.draw(), two.draw());
+        let wide: Vec<u32> = (0..1_000).map(|_| one.between(1, 250_000)).collect();
+        assert!(wide.iter().all(|n| (1..=250_000).contains(n)));
+        for quarter in 0..4 {
+            let within = |n: &&u32| (**n - 1) / 62_500 == quarter;
+            assert!(wide.iter().filter(within).count() > 150);
+        }
     }
 }

@@ -5,7 +5,8 @@ use crate::draws::Draws;
 use crate::placing::shown_set;
 use crate::sheet::{Ration, Sheet, MOST_BLOWERS, MOST_RATIONS, MOST_SLOTS, MOST_TANK, MOST_WAKE};
 
-/// The sizes of a generated sheet, or the greatest ones it may have.
+/// The sizes of a generated sheet, or the greatest ones it may have; of wake costs, the
+/// greatest of most sheets, since some have any.
 #[derive(Clone, Copy, Debug)]
 pub struct Sizes {
     pub slots: u32,
@@ -38,25 +39,43 @@ pub const SMALL: Sizes = Sizes {
     rations: 6,
 };
 
-/// `count` tanks rising strictly, spread over 1 to 999.
+/// Tanks at which a number gets a digit more, or more than 16 bits, and the last one.
+const TANK_EDGES: [u32; 7] = [99, 999, 9_999, 65_535, 99_999, 131_071, MOST_TANK];
+
+/// `count` tanks rising strictly. As often as not they are small; else they are spread over
+/// all that a tank may be, or lie around an edge.
 fn rising_tanks(draws: &mut Draws, count: usize) -> Vec<u32> {
+    let count = count as u32;
+    let (mut before, longest_step) = match draws.below(4) {
+        0 | 1 => (0, 30),
+        2 => (0, 2 * MOST_TANK / count.max(1)),
+        _ => {
+            let edge = TANK_EDGES[draws.index(TANK_EDGES.len())];
+            let below = draws.between(0, 2 * count);
+            (edge.saturating_sub(below).min(MOST_TANK - count), 3)
+        }
+    };
     let mut tanks = Vec::new();
-    let mut before = 0;
-    for left in (0..count as u32).rev() {
+    for left in (0..count).rev() {
         // Leave one number for each tank still to come.
         let room = MOST_TANK - left - before;
-        before += draws.between(1, room.min(30));
+        before += draws.between(1, room.min(longest_step));
         tanks.push(before);
     }
     tanks
 }
 
-/// A wake cost: small as often as not, since small ones decide between off and on.
+/// Wake costs at an end of their range: of practice sheets, and of all.
+const WAKE_EDGES: [u32; 4] = [200, 201, MOST_WAKE - 1, MOST_WAKE];
+
+/// A wake cost: small as often as not, since small ones decide between off and on. One in
+/// eight is any, or one at an edge.
 fn some_wake(draws: &mut Draws, most: u32) -> u32 {
-    if draws.one_in(2) {
-        draws.between(0, most.min(12))
-    } else {
-        draws.between(0, most)
+    match draws.below(16) {
+        0..=7 => draws.between(0, most.min(12)),
+        8..=13 => draws.between(0, most.min(200)),
+        14 => draws.between(0, MOST_WAKE),
+        _ => WAKE_EDGES[draws.index(WAKE_EDGES.len())],
     }
 }
 
@@ -375,5 +394,61 @@ pub fn held_full_sheet(draws: &mut Draws) -> Sheet {
         if shown_set(&sheet).is_some() {
             return sheet;
         }
+    }
+}
+
+#[cfg(test)]
+mod tests {
+    use super::*;
+    use crate::sheet::read;
+
+    /// Tanks and wake costs are small in most sheets, and some are as great as can be.
+    #[test]
+    fn tanks_and_wake_costs_of_all_sizes_are_there() {
+        let mut draws = Draws::new(110);
+        let sheets: Vec<Sheet> = (0..2_000).map(|_| any_sheet(&mut draws, SMALL)).collect();
+        let tanks = || sheets.iter().flat_map(|s| &s.rations).map(|r| r.tank);
+        let count = |from: u32, to: u32| tanks().filter(|t| (from..=to).contains(t)).count();
+        assert!(count(1, 999) > 2_000);
+        assert!(count(1_000, 99_999) > 400);
+        assert!(count(100_000, MOST_TANK) > 400);
+        for edge in TANK_EDGES {
+            assert!(count(edge, edge) > 5, "tank {edge}");
+            assert!(
+                edge == MOST_TANK || count(edge + 1, edge + 1) > 5,
+                "tank {edge} + 1"
+            );
+        }
+        assert_eq!(count(0, 0) + count(MOST_TANK + 1, u32::MAX), 0);
+        let wakes = |from: u32, to: u32| {
+            let within = |s: &&Sheet| (from..=to).contains(&s.wake);
+            sheets.iter().filter(within).count()
+        };
+        assert!(wakes(0, 12) > 1_000);
+        assert!(wakes(21, MOST_WAKE) > 100);
+        for edge in WAKE_EDGES {
+            assert!(wakes(edge, edge) > 5, "wake {edge}");
+        }
+    }
+
+    /// From one ration to the most, tanks rise and leave room for those to come.
+    #[test]
+    fn tanks_rise_and_end_in_range() {
+        let mut draws = Draws::new(111);
+        for count in (0..=64).cycle().take(65 * 60) {
+            let tanks = rising_tanks(&mut draws, count);
+            assert_eq!(tanks.len(), count);
+            assert!(tanks.windows(2).all(|pair| pair[0] < pair[1]));
+            assert!(tanks.iter().all(|t| (1..=MOST_TANK).contains(t)));
+        }
+    }
+
+    #[test]
+    fn full_sheets_have_the_greatest_tank_too() {
+        let mut draws = Draws::new(112);
+        let sheets: Vec<Sheet> = (0..200).map(|_| full_sheet(&mut draws)).collect();
+        assert!(sheets.iter().all(|s| read(&s.text()).as_ref() == Ok(s)));
+        let ends_last = |s: &&Sheet| s.rations.last().is_some_and(|r| r.tank == MOST_TANK);
+        assert!(sheets.iter().filter(ends_last).count() > 2);
     }
 }

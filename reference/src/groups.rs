@@ -110,7 +110,7 @@ mod tests {
     fn limits_bind_and_leave_enough() {
         let mut draws = Draws::new(108);
         let (mut elsewhere, mut as_alone, mut held_by_limit, mut refused) = (0, 0, 0, 0);
-        for _ in 0..500 {
+        for _ in 0..800 {
             let Group { limit, halls, lent } = group(&mut draws, |d| any_sheet(d, SMALL).text());
             let answer = plan_halls(limit, halls, &lent);
             refused += u32::from(answer.number == 14);

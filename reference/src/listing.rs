@@ -4,12 +4,11 @@
 use crate::bill;
 use crate::method::{self, Plan};
 use crate::placing::{full_highs, Question, SlotSet};
-use crate::sheet::{line_text, read, Refusal, Sheet, LINE, MOST_SLOTS};
+use crate::sheet::{line_text, read, Refusal, Sheet, LINE, MOST_BLOWERS, MOST_SLOTS};
 
-/// The least plan buffer: `PLAN`, its head line, for each of 8 blowers and 96 slots one
-/// stretch line and one feed line, and the line of the bill, by which request 103 lets it
-/// grow.
-pub const PLAN_BUFFER: usize = 32_282 + LINE;
+/// The least plan buffer, 38,455 bytes: `PLAN` and byte 10, the head line, for each blower
+/// and slot one stretch line and one feed line, and the line of the bill (request 103).
+pub const PLAN_BUFFER: usize = 5 + LINE * (2 + 2 * (MOST_BLOWERS * MOST_SLOTS) as usize);
 /// The least placing buffer: a word for each of 96 slots, with a bit for each of 64
 /// rations.
 pub const PLACING_WORDS: usize = MOST_SLOTS as usize;

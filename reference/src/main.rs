@@ -7,7 +7,7 @@ use reference::draws::Draws;
 use reference::generate::{self, FULL};
 use reference::listing;
 use reference::practice;
-use reference::through::{seed_inputs, sheet_inputs, through, Expected, Input};
+use reference::through::{all_seed_inputs, seed_inputs, sheet_inputs, through, Expected, Input};
 use std::io::{self, Read, Write};
 use std::process::ExitCode;
 
@@ -17,7 +17,8 @@ const USAGE: &str = "usage: reference plan < sheet > listing
        reference sheet KIND SEED > sheet
        reference cases STREAM-in | STREAM-out
        reference through PLANNER [WHY [PRACTICE]]
-A seed is a number from 0 to 99,999 in a field of five columns, closed by byte 10.
+       reference seeds-through PRACTICE
+A seed is a number from 0 to 99,999 in a field of six columns, closed by byte 10.
 KIND is random, whole-day, tight, crowded, jagged, held or damaged; SEED is a number of
 32 bits.
 STREAM is sheet, placing, plan, days, causes, practice, seeds or halls.";
@@ -47,6 +48,7 @@ fn answer(words: &[&str]) -> Option<io::Result<Vec<u8>>> {
         ["sheet", kind, seed] => generated(kind, seed.parse().ok()?).map(Ok),
         ["cases", file] => case_file(file).map(Ok),
         ["through", ref paths @ ..] => tried_all(paths),
+        ["seeds-through", path] => Some(tried(path, (all_seed_inputs, practice::program))),
         _ => None,
     }
 }

@@ -8,10 +8,14 @@ use crate::sheet::{field_value, Ration, Refusal, Sheet, FIELD};
 /// The slots of every practice sheet.
 const SLOTS: u32 = 96;
 /// How many numbers of blowers, wake costs and numbers of rations the draws choose from.
-/// They are the request's own, and stay where a limit of the sheet changes.
+/// They are the request's own, and stay where a limit of the sheet changes: request 110 lets
+/// a sheet have greater wake costs, and a practice sheet has none above 200.
 const BLOWERS: u32 = 8;
 const WAKES: u32 = 201;
 const RATIONS: u32 = 65;
+
+/// The last seed that the program takes; the call takes any of 32 bits.
+pub const LAST_SEED: u32 = 99_999;
 
 /// The sheet of a seed. Each number that is drawn is drawn where it stands here, so that the
 /// order of the lines below is that of the draws.
@@ -40,7 +44,7 @@ pub fn practice_sheet(seed: u32) -> Sheet {
     }
 }
 
-/// The call for a practice sheet: number, line and length. A buffer under 21 × (n + 1) bytes
+/// The call for a practice sheet: number, line and length. A buffer under 25 × (n + 1) bytes
 /// is refused and keeps its bytes, as do those after the sheet in a longer one.
 pub fn practice(seed: u32, buffer: &mut [u8]) -> (u32, u32, usize) {
     let text = practice_sheet(seed).text();
@@ -51,14 +55,14 @@ pub fn practice(seed: u32, buffer: &mut [u8]) -> (u32, u32, usize) {
     (0, 0, text.len())
 }
 
-/// The seed of an input: one field, closed by byte 10, and nothing else. Five columns hold
-/// no number above 99,999.
+/// The seed of an input: one field, closed by byte 10, and nothing else. A field holds
+/// numbers above the last seed too, and these are no seeds.
 fn seed_of(input: &[u8]) -> Option<u32> {
     let (&closing, field) = input.split_last()?;
     if field.len() != FIELD || closing != b'\n' {
         return None;
     }
-    field_value(field)
+    field_value(field).filter(|&seed| seed <= LAST_SEED)
 }
 
 /// The program's whole output for the bytes of its standard input.

@@ -1,17 +1,17 @@
 //! The feed sheet: lines of four numbers, checks 1 to 9 and 13, reading, writing and
 //! the look-up by tank.
 
-/// Bytes in a line: four fields of five columns, then byte 10.
-pub const LINE: usize = 21;
 /// Columns of one field.
-pub const FIELD: usize = 5;
-/// The longest sheet that passes check 1.
+pub const FIELD: usize = 6;
+/// Bytes in a line: four fields, then byte 10.
+pub const LINE: usize = 4 * FIELD + 1;
+/// No sheet that passes check 1 has more bytes than this; whole lines end before it.
 pub const LONGEST_SHEET: usize = 65_520;
 pub const MOST_SLOTS: u32 = 96;
 pub const MOST_BLOWERS: u32 = 8;
-pub const MOST_WAKE: u32 = 200;
+pub const MOST_WAKE: u32 = 2_000;
 pub const MOST_RATIONS: u32 = 64;
-pub const MOST_TANK: u32 = 999;
+pub const MOST_TANK: u32 = 250_000;
 
 /// One ration line: a meal of a tank, which may have several (request 102).
 #[derive(Clone, Copy, Debug, PartialEq, Eq)]
@@ -69,12 +69,19 @@ fn refuse<T>(number: u32, line: u32) -> Result<T, Refusal> {
     Err(Refusal { number, line })
 }
 
-/// Four numbers, each below 100,000, as one line.
+/// A number below 1,000,000 as a field: right-justified, blanks on its left.
+pub fn field_text(value: u32) -> [u8; FIELD] {
+    let text = format!("{value:>FIELD$}").into_bytes();
+    text.try_into().expect("the number fits its field")
+}
+
+/// Four numbers, each below 1,000,000, as one line.
 pub fn line_text(values: [u32; 4]) -> [u8; LINE] {
-    let text = values.map(|v| format!("{v:>5}")).concat() + "\n";
-    text.into_bytes()
-        .try_into()
-        .expect("every number fits five columns")
+    let mut line = [b'\n'; LINE];
+    for (field, value) in line.chunks_exact_mut(FIELD).zip(values) {
+        field.copy_from_slice(&field_text(value));
+    }
+    line
 }
 
 /// The number that a field holds, or none if it is not in the stated form:

@@ -55,16 +55,22 @@ pub fn seed_inputs() -> Vec<Input> {
     let fields = practice::program_inputs();
     let mut inputs: Vec<Input> = fields.iter().cloned().map(Input::whole).collect();
     // A seed, and after it more than the program reads at a time.
-    for length in [65_536, 65_537, 65_542, 70_000, 200_000] {
+    for length in [65_536, 65_537, 65_543, 70_000, 200_000] {
         inputs.push(Input::whole(practice::long_input(length)));
     }
     inputs.push(Input::in_pieces(practice::long_input(70_000), 4_096));
     // One that ends, or that goes on, only after a pause.
     for field in fields {
         inputs.push(Input::in_pieces(field.clone(), 1));
-        inputs.push(Input::in_pieces(field, 5));
+        inputs.push(Input::in_pieces(field, 6));
     }
     inputs
+}
+
+/// Every seed that the program takes.
+pub fn all_seed_inputs() -> Vec<Input> {
+    let fields = practice::all_inputs();
+    fields.into_iter().map(Input::whole).collect()
 }
 
 /// Runs a program on every input, and gives the first whose output is not as expected.

@@ -8,7 +8,7 @@ use reference::draws::Draws;
 use reference::generate::{any_sheet, tight_sheet, FULL, MIDDLE};
 use reference::listing::{plan, program, PLACING_WORDS, PLAN_BUFFER};
 use reference::method::{self, stretches};
-use reference::sheet::{read, Sheet, LINE};
+use reference::sheet::{field_value, read, Sheet, FIELD, LINE};
 use written::text;
 
 /// The day's charge in tenths of a cent, and the last line of its listing.
@@ -18,8 +18,8 @@ fn check_bill(lines: &str, tenths: u32, hundreds: u32, remaining: u32) {
     assert_eq!(plan.charge, tenths, "{lines}");
     let output = program(&bytes);
     assert!(output.starts_with(b"PLAN\n"));
-    let last = format!("{hundreds:>5}{remaining:>5}    0    0\n");
-    assert_eq!(&output[output.len() - LINE..], last.as_bytes(), "{lines}");
+    let last = text(&format!("{hundreds} {remaining} 0 0"));
+    assert_eq!(&output[output.len() - LINE..], last, "{lines}");
 }
 
 /// Nine energy units in hour 0: 162 tenths.
@@ -31,25 +31,25 @@ fn the_first_listing_costs_16_cents() {
 #[test]
 fn an_idle_day_costs_nothing() {
     let listing = "PLAN
-    0    0    1    0
-    1    1    3    0
-    0    0    0    0
+     0     0     1     0
+     1     1     3     0
+     0     0     0     0
 ";
     assert_eq!(program(&text("3 1 4 0")), listing.as_bytes());
-    check_bill("96 8 200 0", 0, 0, 0);
+    check_bill("96 8 2000 0", 0, 0, 0);
 }
 
 /// Slot 25 is the first of hour 6. Both starts and their slots: 4 × 18 + 4 × 31.
 #[test]
 fn a_start_costs_the_rate_of_its_first_on_slot() {
     let listing = "PLAN
-    8    2    3    2
-    1    1    1    2
-    1    2   24    0
-    1   25   25    2
-    1    1    1    1
-   25    1    2    1
-    0   20    0    0
+     8     2     3     2
+     1     1     1     2
+     1     2    24     0
+     1    25    25     2
+     1     1     1     1
+    25     1     2     1
+     0    20     0     0
 ";
     let day = "25 1 3 2 / 1 1 1 1 / 2 25 25 1";
     assert_eq!(program(&text(day)), listing.as_bytes());
@@ -64,18 +64,18 @@ fn a_start_costs_the_rate_of_its_first_on_slot() {
 fn idle_slots_that_are_on_cost_their_rate() {
     let day = "30 1 9 2 / 1 20 22 3 / 2 27 28 2";
     let listing = "PLAN
-   18    1    5    5
-    1    1   19    0
-    1   20   22    2
-    1   23   26    1
-    1   27   28    2
-    1   29   30    0
-   20    1    1    1
-   21    1    1    2
-   22    1    1    3
-   27    1    2    1
-   28    1    2    2
-    0   38    0    0
+    18     1     5     5
+     1     1    19     0
+     1    20    22     2
+     1    23    26     1
+     1    27    28     2
+     1    29    30     0
+    20     1     1     1
+    21     1     1     2
+    22     1     1     3
+    27     1     2     1
+    28     1     2     2
+     0    38     0     0
 ";
     assert_eq!(program(&text(day)), listing.as_bytes());
     check_bill(day, 376, 0, 38);
@@ -117,26 +117,29 @@ fn hundreds_of_cents() {
     check_bill("1 1 54 1 / 1 1 1 1", 990, 0, 99);
     check_bill("1 1 55 1 / 1 1 1 1", 1_008, 1, 1);
     check_bill("1 1 200 1 / 1 1 1 1", 3_618, 3, 62);
+    check_bill("1 1 2000 1 / 1 1 1 1", 36_018, 36, 2);
     let busy = |first: u32, volume: u32| -> String {
         let ration = |tank| format!(" / {tank} {first} 96 {volume}");
-        format!("96 8 200 8{}", (1..=8).map(ration).collect::<String>())
+        format!("96 8 2000 8{}", (1..=8).map(ration).collect::<String>())
     };
-    // Eight blowers, each with the whole day's 2,412 tenths and a start at 200 × 18.
-    check_bill(&busy(1, 96), 8 * (2_412 + 3_600), 48, 10);
-    // From the first slot at 31 on: 1,980 tenths and 200 × 31.
-    check_bill(&busy(25, 72), 8 * (1_980 + 6_200), 65, 44);
+    // Eight blowers, each with the whole day's 2,412 tenths and a start at 2,000 × 18.
+    check_bill(&busy(1, 96), 8 * (2_412 + 36_000), 307, 30);
+    // From the first slot at 31 on: 1,980 tenths and 2,000 × 31.
+    check_bill(&busy(25, 72), 8 * (1_980 + 62_000), 511, 84);
+    // From the first slot at 36 on, the dearest day: 840 tenths and 2,000 × 36.
+    check_bill(&busy(69, 28), 8 * (840 + 72_000), 582, 72);
 }
 
 #[test]
 fn the_plan_buffer_grows_by_a_line() {
-    assert_eq!(PLAN_BUFFER, 5 + 21 * (2 + 2 * 8 * 96));
+    assert_eq!(PLAN_BUFFER, 5 + 25 * (2 + 2 * 8 * 96));
     let day = text("3 1 4 0");
     let lent = vec![7; PLAN_BUFFER + 1];
     for (size, answer) in [
-        (32_282, (10, 0, 0)),
-        (32_302, (10, 0, 0)),
-        (32_303, (0, 0, 68)),
-        (32_304, (0, 0, 68)),
+        (38_430, (10, 0, 0)),
+        (38_454, (10, 0, 0)),
+        (38_455, (0, 0, 80)),
+        (38_456, (0, 0, 80)),
     ] {
         let mut buffer = lent[..size].to_vec();
         assert_eq!(plan(&day, Some(&mut buffer), None), answer);
@@ -167,13 +170,12 @@ fn tally(wake: u32, states: &[u32]) -> u32 {
 
 /// The four numbers of each line after the listing's word.
 fn lines_of(listing: &[u8]) -> Vec<[u32; 4]> {
-    let text = std::str::from_utf8(&listing[5..]).expect("a listing is ASCII");
-    let line = |line: &str| {
-        let words = line.split_whitespace().map(|word| word.parse());
-        let numbers: Vec<u32> = words.map(|number| number.expect("a number")).collect();
+    let line = |line: &[u8]| {
+        let fields = line[..LINE - 1].chunks(FIELD).map(field_value);
+        let numbers: Vec<u32> = fields.map(|number| number.expect("a number")).collect();
         numbers.try_into().expect("four numbers")
     };
-    text.lines().map(line).collect()
+    listing[5..].chunks(LINE).map(line).collect()
 }
 
 /// The bill of a listing, counted again from its stretch lines. Gives its tenths.
@@ -221,7 +223,7 @@ fn charges_counted_slot_by_slot() {
             slots: draws.between(1, 96),
             blowers: draws.between(1, 8),
             wake: match draws.below(3) {
-                0 => draws.between(0, 200),
+                0 => draws.between(0, 2_000),
                 _ => draws.between(0, 12),
             },
             rations: Vec::new(),
@@ -252,7 +254,7 @@ fn charges_counted_slot_by_slot() {
 
 #[test]
 fn cents_are_the_nearest_and_the_upper_of_two() {
-    for tenths in 0..70_000 {
+    for tenths in 0..700_000 {
         let above = i64::from(10 * cents(tenths)) - i64::from(tenths);
         assert!((-4..=5).contains(&above), "{tenths}");
     }

@@ -3,7 +3,7 @@
 
 mod written;
 
-use reference::cases::causes::long_day;
+use reference::cases::causes::{long_day, LongDay};
 use reference::causes::{causes, entries, listing, why, Cause, Entry, CAUSES_BUFFER};
 use reference::damage::damaged_sheet;
 use reference::draws::Draws;
@@ -95,7 +95,7 @@ fn a_set_that_goes_back_before_the_stretch_s_next_slot() {
 #[test]
 fn a_day_without_rations_has_no_entry() {
     check("3 1 4 0", &[]);
-    check("96 8 200 0", &[]);
+    check("96 8 2000 0", &[]);
     check("1 1 0 0", &[]);
 }
 
@@ -150,8 +150,9 @@ fn a_set_with_slots_between_that_do_not_belong_to_it() {
 /// the whole day, up to slot v + 1. From there on these have nothing left for a slot
 /// without a ration of its own: busy in one more, this slot and the v slots that they feed
 /// ask for more than they have. A blower busy in a slot of its own was idle before as long
-/// as it could be: the highest by a shortfall, lower ones where they meet its low.
-fn long_day_entries(blowers: u32, v: u32, stops: u32, last: u32) -> Vec<Entry> {
+/// as it could be: the highest by a shortfall, lower ones where they meet its low. A late
+/// ration leaves blower 1 idle until the last slot of its window, by a shortfall of all of it.
+fn long_day_entries(([blowers, v, stops, last], late): LongDay) -> Vec<Entry> {
     let mut entries = Vec::new();
     for blower in (1..=blowers).rev() {
         let mut add = |busy, last, cause, slots| {
@@ -183,6 +184,12 @@ fn long_day_entries(blowers: u32, v: u32, stops: u32, last: u32) -> Vec<Entry> {
                 }
             }
         }
+        if let (1, Some([first, slot])) = (blower, late) {
+            add(false, slot - 1, Cause::Shortfall, (first..=slot).collect());
+            if slot < 96 {
+                add(true, slot, Cause::Excess, busy_end(slot));
+            }
+        }
     }
     entries
 }
@@ -192,24 +199,26 @@ fn lines_of(entries: &[Entry]) -> usize {
     entries.iter().map(|e| 1 + e.slots.len()).sum()
 }
 
-/// 65,536 bytes hold 3,120 lines. For days of so many lines, how many are kept.
+/// 65,536 bytes hold 2,621 lines. For days of so many lines, how many are kept.
 #[test]
 fn long_listings_are_cut_between_entries() {
-    for (blowers, v, stops, last, whole, kept) in [
-        // As many lines as there is room for, and so many with entries to come.
-        (7, 61, 6, 6, 3_120, 3_120),
-        (7, 61, 6, 7, 3_185, 3_120),
-        // The last entry, of two lines, would be a line too many.
-        (7, 85, 5, 2, 3_119, 3_119),
-        (7, 85, 5, 3, 3_121, 3_119),
+    for (day, late, whole, kept) in [
+        // As many lines as there is room for, and so many with an entry to come.
+        ([4, 63, 9, 3], Some([90, 96]), 2_621, 2_621),
+        ([4, 63, 9, 3], Some([89, 95]), 2_686, 2_621),
+        // The last entry, of nine lines, would be a line too many.
+        ([4, 63, 9, 3], Some([89, 96]), 2_622, 2_613),
+        // One line less than there is room for; an entry of two lines would be a line too many.
+        ([5, 83, 6, 5], None, 2_620, 2_620),
+        ([6, 83, 6, 6], None, 3_144, 2_620),
         // An entry of 87 lines does not fit, and shorter ones after it would.
-        (7, 85, 5, 4, 3_123, 3_034),
-        (8, 83, 6, 8, 4_192, 3_057),
+        ([7, 85, 5, 4], None, 3_123, 2_587),
+        ([8, 83, 6, 8], None, 4_192, 2_620),
     ] {
-        let lines = long_day([blowers, v, stops, last]);
+        let lines = long_day((day, late));
         let text: Vec<u8> = lines.into_iter().flat_map(line_text).collect();
         let sheet = read(&text).expect("accepted");
-        let expected = long_day_entries(blowers, v, stops, last);
+        let expected = long_day_entries((day, late));
         assert_eq!(entries(&sheet), Ok(expected.clone()));
         assert_eq!(lines_of(&expected), whole);
         let mut left = expected.iter();
@@ -229,7 +238,7 @@ fn long_listings_are_cut_between_entries() {
         }
         assert_eq!(text.len(), kept * LINE);
         let next = left.next().map(|e| 1 + e.slots.len());
-        assert!(next.is_none_or(|lines| kept + lines > 3_120));
+        assert!(next.is_none_or(|lines| kept + lines > 2_621));
         let answer = (0, 0, kept * LINE, kept < whole);
         for lent in [CAUSES_BUFFER, CAUSES_BUFFER + 1, 100_000] {
             assert_eq!(called(&sheet.text(), lent), (answer, text.clone()));
@@ -257,16 +266,16 @@ fn made_up(sizes: &[usize]) -> (usize, bool) {
 fn the_first_entry_that_does_not_fit_ends_the_listing() {
     assert_eq!(made_up(&[]), (0, false));
     assert_eq!(made_up(&[2]), (2, false));
-    assert_eq!(made_up(&vec![2; 1_560]), (3_120, false));
-    assert_eq!(made_up(&vec![2; 1_561]), (3_120, true));
-    let mut sizes = vec![97; 32];
-    assert_eq!(made_up(&sizes), (3_104, false));
-    sizes.push(16);
-    assert_eq!(made_up(&sizes), (3_120, false));
-    sizes[32] = 17;
-    assert_eq!(made_up(&sizes), (3_104, true));
+    assert_eq!(made_up(&vec![2; 1_310]), (2_620, false));
+    assert_eq!(made_up(&vec![2; 1_311]), (2_620, true));
+    let mut sizes = vec![97; 27];
+    assert_eq!(made_up(&sizes), (2_619, false));
+    sizes.push(2);
+    assert_eq!(made_up(&sizes), (2_621, false));
+    sizes[27] = 3;
+    assert_eq!(made_up(&sizes), (2_619, true));
     sizes.extend([2, 2]);
-    assert_eq!(made_up(&sizes), (3_104, true));
+    assert_eq!(made_up(&sizes), (2_619, true));
 }
 
 /// Checks 1 to 9 and 13 of the sheet, then 10, then 12; nothing is written for any of them.
@@ -276,35 +285,35 @@ fn the_checks_in_their_order() {
     let good = text("3 1 1 1 / 1 1 3 1");
     for (sheet, number, line) in [
         (vec![], 1, 0),
-        (good[..20].to_vec(), 1, 0),
-        (b"    3    1    1   00\n".to_vec(), 2, 1),
+        (good[..24].to_vec(), 1, 0),
+        (b"     3     1     1    00\n".to_vec(), 2, 1),
         (text("97 1 1 0"), 3, 1),
         (text("3 9 1 0"), 4, 1),
-        (text("3 1 201 0"), 5, 1),
+        (text("3 1 2001 0"), 5, 1),
         (text("3 1 1 1"), 6, 1),
         (text("3 1 1 1 / 0 1 3 1"), 7, 2),
         (text("3 1 1 1 / 1 1 4 1"), 8, 2),
         (text("3 1 1 1 / 1 1 3 4"), 9, 2),
         (text("3 1 1 2 / 1 1 2 2 / 1 2 3 2"), 13, 3),
     ] {
-        for lent in [0, 26, CAUSES_BUFFER - 1, CAUSES_BUFFER, CAUSES_BUFFER + 1] {
+        for lent in [0, 30, CAUSES_BUFFER - 1, CAUSES_BUFFER, CAUSES_BUFFER + 1] {
             assert_eq!(called(&sheet, lent).0, (number, line, 0, false));
         }
-        let refusal = format!("HELD\n{number:>5}{line:>5}    0    0\n");
-        assert_eq!(why(&sheet), refusal.as_bytes());
+        let refusal = text(&format!("{number} {line} 0 0"));
+        assert_eq!(why(&sheet), [b"HELD\n", &refusal[..]].concat());
     }
-    for lent in [0, 42, CAUSES_BUFFER - 1] {
+    for lent in [0, 50, CAUSES_BUFFER - 1] {
         assert_eq!(called(&held, lent).0, (10, 0, 0, false));
         assert_eq!(called(&good, lent).0, (10, 0, 0, false));
     }
     for lent in [CAUSES_BUFFER, CAUSES_BUFFER + 1, 100_000] {
         assert_eq!(called(&held, lent).0, (12, 0, 0, false));
         let entry = entry_lines(&["1 2 1 3: 1 2 3"]);
-        assert_eq!(called(&good, lent), ((0, 0, 84, false), entry));
+        assert_eq!(called(&good, lent), ((0, 0, 100, false), entry));
     }
     assert_eq!(
         why(&held),
-        b"HELD\n   12    1    2    1\n    2    0    0    0\n"
+        b"HELD\n    12     1     2     1\n     2     0     0     0\n"
     );
     assert_eq!(why(&held), program(&held));
 }

@@ -47,7 +47,7 @@ fn the_same_plan_from_different_sheets() {
     are_same(&[
         FIRST,
         "4 8 2 3 / 1 1 2 2 / 2 1 4 2 / 3 2 3 1",
-        "4 2 200 3 / 1 1 2 2 / 2 1 4 2 / 3 2 3 1",
+        "4 2 2000 3 / 1 1 2 2 / 2 1 4 2 / 3 2 3 1",
         // Windows without spare slots, and a meal for each feeding of tank 2.
         "4 2 2 3 / 1 1 2 2 / 2 3 4 2 / 3 3 3 1",
         "4 2 2 4 / 1 1 2 2 / 2 3 3 1 / 2 4 4 1 / 3 3 3 1",
@@ -59,7 +59,7 @@ fn the_same_plan_from_different_sheets() {
         "6 1 0 2 / 5 1 4 2 / 5 5 6 1",
         "6 1 0 1 / 5 3 5 3",
     ]);
-    are_same(&["96 1 0 0", "96 8 200 0"]);
+    are_same(&["96 1 0 0", "96 8 2000 0"]);
 }
 
 /// The complaint: the counts agree in every slot, and different tanks are fed.
@@ -78,7 +78,9 @@ fn plans_that_differ_in_one_slot() {
     // As numbers, and not as text.
     is_before(day, "3 1 0 3 / 4 1 1 1 / 7 2 2 1 / 10 3 3 1");
     is_before("1 1 0 1 / 99 1 1 1", "1 1 0 1 / 100 1 1 1");
-    is_before("1 1 0 1 / 998 1 1 1", "1 1 0 1 / 999 1 1 1");
+    is_before("1 1 0 1 / 99999 1 1 1", "1 1 0 1 / 100000 1 1 1");
+    is_before("1 1 0 1 / 5 1 1 1", "1 1 0 1 / 100004 1 1 1");
+    is_before("1 1 0 1 / 249999 1 1 1", "1 1 0 1 / 250000 1 1 1");
     // In the last slot of the longest day.
     is_before(
         "96 1 0 2 / 4 1 95 95 / 7 96 96 1",
@@ -101,7 +103,7 @@ fn the_smaller_d_comes_first() {
     is_before("3 1 0 1 / 4 1 1 1", "4 1 0 1 / 4 1 1 1");
     is_before("95 1 0 1 / 4 1 95 95", "96 1 0 1 / 4 1 95 95");
     // Though its lists are greater.
-    is_before("1 1 0 1 / 999 1 1 1", "2 1 0 1 / 1 1 1 1");
+    is_before("1 1 0 1 / 250000 1 1 1", "2 1 0 1 / 1 1 1 1");
     is_before("1 2 0 2 / 4 1 1 1 / 7 1 1 1", "96 1 0 0");
 }
 
@@ -143,10 +145,10 @@ fn the_first_refusal_of_the_first_sheet_is_the_answer() {
         (text("1 1 0 2 / 4 1 1 1 / 7 1 1 1"), Some((12, 0))),
         (vec![], Some((1, 0))),
         (text(FIRST)[1..].to_vec(), Some((1, 0))),
-        (b"00000    1    0    0\n".to_vec(), Some((2, 1))),
+        (b"000000     1     0     0\n".to_vec(), Some((2, 1))),
         (text("97 1 0 0"), Some((3, 1))),
         (text("4 9 0 0"), Some((4, 1))),
-        (text("4 1 201 0"), Some((5, 1))),
+        (text("4 1 2001 0"), Some((5, 1))),
         (text("4 1 0 1"), Some((6, 1))),
         (text("4 1 0 2 / 7 1 1 1 / 4 2 2 1"), Some((7, 3))),
         (text("4 1 0 1 / 4 1 5 1"), Some((8, 2))),

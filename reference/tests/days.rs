@@ -23,22 +23,22 @@ fn tanks_by_slot(plan: &Plan) -> Vec<Vec<u32>> {
 
 const FIRST: &str = "4 2 2 3 / 1 1 2 2 / 2 1 4 2 / 3 2 3 1";
 const FIRST_LISTING: &str = "PLAN
-    9    2    4    5
-    1    1    4    2
-    2    1    2    0
-    2    3    3    2
-    2    4    4    0
-    1    1    1    1
-    2    1    1    2
-    3    1    2    1
-    3    2    3    1
-    4    1    2    2
-    0   16    0    0
+     9     2     4     5
+     1     1     4     2
+     2     1     2     0
+     2     3     3     2
+     2     4     4     0
+     1     1     1     1
+     2     1     1     2
+     3     1     2     1
+     3     2     3     1
+     4     1     2     2
+     0    16     0     0
 ";
 const HELD: &str = "3 1 1 2 / 1 1 2 2 / 2 2 3 2";
 const HELD_LISTING: &str = "HELD
-   12    1    2    1
-    2    0    0    0
+    12     1     2     1
+     2     0     0     0
 ";
 
 #[test]
@@ -89,6 +89,7 @@ fn days_without_rations() {
 #[test]
 fn the_dearest_single_feeding() {
     assert_eq!(planned("1 1 200 1 / 1 1 1 1").energy, 201);
+    assert_eq!(planned("1 1 2000 1 / 1 1 1 1").energy, 2_001);
 }
 
 #[test]
@@ -123,13 +124,13 @@ fn an_idle_stretch_as_long_as_the_wake_cost_is_off() {
 #[test]
 fn sizes_beyond_the_limits() {
     for (day, output) in [
-        ("97 2 2 0", "HELD\n    3    1    0    0\n"),
-        ("4 9 2 0", "HELD\n    4    1    0    0\n"),
-        ("4 2 201 0", "HELD\n    5    1    0    0\n"),
+        ("97 2 2 0", "HELD\n     3     1     0     0\n"),
+        ("4 9 2 0", "HELD\n     4     1     0     0\n"),
+        ("4 2 2001 0", "HELD\n     5     1     0     0\n"),
     ] {
         assert_eq!(program(&text(day)), output.as_bytes());
     }
-    assert_eq!(program(b""), b"HELD\n    1    0    0    0\n");
+    assert_eq!(program(b""), b"HELD\n     1     0     0     0\n");
 }
 
 #[test]

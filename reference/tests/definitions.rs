@@ -347,7 +347,7 @@ fn plans_of_small_days() {
 fn plans_of_small_days_under_highs() {
     let mut draws = Draws::new(14);
     let (mut planned, mut elsewhere) = (0, 0);
-    for _ in 0..6_000 {
+    for _ in 0..8_000 {
         let mut sheet = random_sheet(&mut draws, SMALL);
         // With less to feed, more of them have a plan.
         for ration in &mut sheet.rations {

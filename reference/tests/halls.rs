@@ -93,32 +93,32 @@ fn counts(answer: &HallPlanned, slots: usize) -> Vec<u32> {
 #[test]
 fn each_hall_takes_what_the_earlier_ones_leave() {
     let first = "PLAN
-    2    1    2    1
-    1    1    2    0
-    1    3    3    2
-    3    1    1    1
-    0    4    0    0
+     2     1     2     1
+     1     1     2     0
+     1     3     3     2
+     3     1     1     1
+     0     4     0     0
 ";
     let second = "PLAN
-    2    1    3    1
-    1    1    1    0
-    1    2    2    2
-    1    3    3    0
-    2    1    1    1
-    0    4    0    0
+     2     1     3     1
+     1     1     1     0
+     1     2     2     2
+     1     3     3     0
+     2     1     1     1
+     0     4     0     0
 ";
     let third = "PLAN
-    2    1    2    1
-    1    1    1    2
-    1    2    3    0
-    1    1    1    1
-    0    4    0    0
+     2     1     2     1
+     1     1     1     2
+     1     2     3     0
+     1     1     1     1
+     0     4     0     0
 ";
     let fourth = "HELD
-   12    3    1    0
-    1    0    0    0
-    2    0    0    0
-    3    0    0    0
+    12     3     1     0
+     1     0     0     0
+     2     0     0     0
+     3     0     0     0
 ";
     let all = [
         planned(first, &[0, 0, 1]),
@@ -144,15 +144,15 @@ fn an_idle_step_raises_no_bound() {
     let before = "2 2 0 2 / 1 2 2 1 / 2 2 2 1";
     let day = "2 3 0 3 / 1 1 2 1 / 2 1 2 1 / 3 1 2 1";
     let listing = "PLAN
-    3    2    4    3
-    1    1    2    2
-    2    1    1    2
-    2    2    2    0
-    3    1    2    0
-    1    1    1    1
-    1    2    2    1
-    2    1    3    1
-    0    5    0    0
+     3     2     4     3
+     1     1     2     2
+     2     1     1     2
+     2     2     2     0
+     3     1     2     0
+     1     1     1     1
+     1     2     2     1
+     2     1     3     1
+     0     5     0     0
 ";
     let both = answers_of(3, &[before, day]);
     assert_eq!(counts(&both[0], 2), [0, 2]);
@@ -165,13 +165,13 @@ fn an_idle_step_raises_no_bound() {
 #[test]
 fn every_blower_of_a_hall_has_its_lines() {
     let listing = "PLAN
-    2    1    3    2
-    1    1    2    2
-    2    1    2    0
-    3    1    2    0
-    1    1    1    1
-    2    1    2    1
-    0    4    0    0
+     2     1     3     2
+     1     1     2     2
+     2     1     2     0
+     3     1     2     0
+     1     1     1     1
+     2     1     2     1
+     0     4     0     0
 ";
     let both = answers_of(1, &["2 8 0 0", "2 3 0 2 / 1 1 2 1 / 2 1 2 1"]);
     assert_eq!(counts(&both[0], 2), [0, 0]);
@@ -184,7 +184,8 @@ fn every_blower_of_a_hall_has_its_lines() {
 fn the_capacity_is_the_sum_of_the_bounds() {
     let before = "3 1 0 1 / 1 1 1 1";
     let day = "3 2 0 3 / 1 1 2 2 / 2 1 2 1 / 3 1 2 1";
-    let listing = "HELD\n   12    2    4    3\n    1    0    0    0\n    2    0    0    0\n";
+    let listing =
+        "HELD\n    12     2     4     3\n     1     0     0     0\n     2     0     0     0\n";
     assert_eq!(answers_of(2, &[before, day])[1], held(listing));
     assert_eq!(counts(&answers_of(2, &[day])[0], 3), [2, 2, 0]);
     // Its own blowers are the smaller bound where the limit leaves more.
@@ -194,7 +195,7 @@ fn the_capacity_is_the_sum_of_the_bounds() {
 /// The held hall shows what it would show alone, and the one after it is planned as alone.
 #[test]
 fn a_held_hall_uses_nothing() {
-    let listing = "HELD\n   12    1    2    1\n    2    0    0    0\n";
+    let listing = "HELD\n    12     1     2     1\n     2     0     0     0\n";
     let alone = answers_of(1, &[ANY_SLOT; 2]);
     let three = answers_of(1, &[HELD, ANY_SLOT, ANY_SLOT]);
     assert_eq!(three[0], held(listing));
@@ -211,7 +212,7 @@ fn a_refused_hall_uses_nothing() {
     for (day, number, line) in [
         ("97 1 1 1 / 1 1 3 1", 3, 1),
         ("3 9 1 1 / 1 1 3 1", 4, 1),
-        ("3 1 201 1 / 1 1 3 1", 5, 1),
+        ("3 1 2001 1 / 1 1 3 1", 5, 1),
         ("3 1 1 2 / 1 1 3 1", 6, 1),
         ("3 1 1 1 / 0 1 3 1", 7, 2),
         ("3 1 1 1 / 1 1 4 1", 8, 2),
@@ -246,7 +247,13 @@ fn a_hall_with_a_short_buffer_uses_nothing() {
         halls[at].placing_words = words;
         answers(1, days.len(), &halls)
     };
-    for (bytes, words) in [(32_302, 96), (32_303, 95), (32_302, 95), (0, 0)] {
+    for (bytes, words) in [
+        (38_454, 96),
+        (38_455, 95),
+        (38_454, 95),
+        (32_303, 96),
+        (0, 0),
+    ] {
         let three = shortened(&[ANY_SLOT; 3], 0, bytes, words);
         assert_eq!(three[0], refused(10, 0));
         assert_eq!(three[1..], alone);
@@ -257,7 +264,7 @@ fn a_hall_with_a_short_buffer_uses_nothing() {
         let fault = "3 1 1 1 / 1 1 3 4";
         assert_eq!(shortened(&[fault], 0, bytes, words)[0], refused(9, 2));
     }
-    for (bytes, words) in [(32_303, 96), (32_304, 97)] {
+    for (bytes, words) in [(38_455, 96), (38_456, 97)] {
         assert_eq!(shortened(&[ANY_SLOT; 2], 0, bytes, words), alone);
     }
 }
@@ -273,11 +280,12 @@ fn a_hall_uses_nothing_past_its_last_slot() {
         [0, 1, 1, 0]
     );
     let early = "3 1 0 1 / 1 1 1 1";
-    let listing = "HELD\n   12    1    1    0\n    1    0    0    0\n";
+    let listing = "HELD\n    12     1     1     0\n     1     0     0     0\n";
     assert_eq!(answers_of(1, &[short, early])[1], held(listing));
     // The longer day first, busy throughout: nothing is left in either slot of the shorter.
     let throughout = "3 1 0 1 / 1 1 3 3";
-    let listing = "HELD\n   12    2    1    0\n    1    0    0    0\n    2    0    0    0\n";
+    let listing =
+        "HELD\n    12     2     1     0\n     1     0     0     0\n     2     0     0     0\n";
     let both = answers_of(1, &[throughout, "2 1 0 1 / 1 1 2 1"]);
     assert_eq!(both[1], held(listing));
     // A day of 96 slots after one of 95 has the last slot to itself.

@@ -24,21 +24,21 @@ fn outcome(lines: &str) -> Result<(), Refusal> {
 #[test]
 fn a_morning_and_an_evening_meal() {
     let listing = "PLAN
-   16    3    6    7
-    1    1    4    2
-    1    5    8    0
-    1    9   10    2
-    2    1    2    0
-    2    3    3    2
-    2    4   10    0
-    1    1    1    1
-    2    1    2    1
-    3    1    1    2
-    3    2    2    2
-    4    1    2    3
-    9    1    1    1
-   10    1    1    2
-    0   29    0    0
+    16     3     6     7
+     1     1     4     2
+     1     5     8     0
+     1     9    10     2
+     2     1     2     0
+     2     3     3     2
+     2     4    10     0
+     1     1     1     1
+     2     1     2     1
+     3     1     1     2
+     3     2     2     2
+     4     1     2     3
+     9     1     1     1
+    10     1     1     2
+     0    29     0     0
 ";
     let day = "10 2 3 3 / 1 1 3 2 / 1 8 10 2 / 2 1 4 3";
     assert_eq!(program(&text(day)), listing.as_bytes());
@@ -49,18 +49,18 @@ fn a_morning_and_an_evening_meal() {
 #[test]
 fn parts_count_within_the_meal() {
     let listing = "PLAN
-    9    1    3    7
-    1    1    1    0
-    1    2    8    2
-    2    1    8    0
-    2    1    1    1
-    3    1    1    2
-    4    1    2    1
-    5    1    2    2
-    6    1    1    1
-    7    1    2    3
-    8    1    1    2
-    0   16    0    0
+     9     1     3     7
+     1     1     1     0
+     1     2     8     2
+     2     1     8     0
+     2     1     1     1
+     3     1     1     2
+     4     1     2     1
+     5     1     2     2
+     6     1     1     1
+     7     1     2     3
+     8     1     1     2
+     0    16     0     0
 ";
     let day = "8 2 2 3 / 1 1 3 2 / 1 6 8 2 / 2 2 7 3";
     assert_eq!(program(&text(day)), listing.as_bytes());
@@ -70,7 +70,8 @@ fn parts_count_within_the_meal() {
 /// both windows could leave one of these slots to tank 6.
 #[test]
 fn soundness_is_read_per_meal() {
-    let held = "HELD\n   12    2    3    2\n    1    0    0    0\n    2    0    0    0\n";
+    let held =
+        "HELD\n    12     2     3     2\n     1     0     0     0\n     2     0     0     0\n";
     let day = text("4 1 1 3 / 5 1 2 2 / 5 3 4 1 / 6 1 2 1");
     assert_eq!(program(&day), held.as_bytes());
     assert_eq!(shortfall(&day, &[1, 1, 0, 0]), (0, 0, 1));
@@ -103,8 +104,11 @@ fn a_tank_is_never_below_the_one_before() {
         outcome("9 1 2 3 / 5 1 2 1 / 5 3 5 1 / 4 7 9 1"),
         refusal(7, 4)
     );
-    assert_eq!(outcome("9 1 2 2 / 999 1 2 1 / 999 3 3 1"), Ok(()));
-    assert_eq!(outcome("9 1 2 2 / 1000 1 2 1 / 1000 3 3 1"), refusal(7, 2));
+    assert_eq!(outcome("9 1 2 2 / 250000 1 2 1 / 250000 3 3 1"), Ok(()));
+    assert_eq!(
+        outcome("9 1 2 2 / 250001 1 2 1 / 250001 3 3 1"),
+        refusal(7, 2)
+    );
     assert_eq!(outcome("9 1 2 2 / 0 1 2 1 / 0 3 3 1"), refusal(7, 2));
 }
 
@@ -138,7 +142,7 @@ fn check_13_comes_last_on_its_line_and_before_the_next_line() {
 #[test]
 fn every_call_refuses_by_13() {
     let day = text("4 1 1 2 / 5 1 2 2 / 5 2 4 1");
-    assert_eq!(program(&day), b"HELD\n   13    3    0    0\n");
+    assert_eq!(program(&day), b"HELD\n    13     3     0     0\n");
     assert!(find(&day, 5).is_empty());
     assert_eq!(shortfall(&day, &[0, 0, 0, 1]), (13, 3, 0));
     assert_eq!(shortfall(&day, &[2]), (13, 3, 0));
@@ -190,7 +194,7 @@ fn first_fault(slots: u32, rations: &[[u32; 4]]) -> Result<(), Refusal> {
         let falls = before.is_some_and(|before| tank < before[0]);
         let early = before.is_some_and(|before| tank == before[0] && first <= before[2]);
         for (number, is_broken) in [
-            (7, tank == 0 || tank > 999 || falls),
+            (7, tank == 0 || tank > 250_000 || falls),
             (8, first == 0 || last < first || slots < last),
             (9, volume == 0 || i64::from(volume) > length),
             (13, early),

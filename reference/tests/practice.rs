@@ -13,7 +13,7 @@ use reference::sheet::{read, Sheet, LINE};
 use written::text;
 
 /// What the program writes for any input that is not a seed.
-const REFUSED: &[u8] = b"HELD\n    2    1    0    0\n";
+const REFUSED: &[u8] = b"HELD\n     2     1     0     0\n";
 
 /// Seeds of the whole 32 bits: the first and the last ones, those around the last that the
 /// program takes, and many between.
@@ -27,7 +27,7 @@ fn some_seeds() -> impl Iterator<Item = u32> {
 
 /// The input that asks for a seed.
 fn field(seed: u32) -> Vec<u8> {
-    format!("{seed:>5}\n").into_bytes()
+    format!("{seed:>6}\n").into_bytes()
 }
 
 /// Seed 0, worked out by hand:
@@ -68,10 +68,10 @@ fn the_first_draws_of_seed_0() {
 /// 33,277 mod 24 is 13: volume 14.
 #[test]
 fn the_sheet_of_seed_0_begins_so() {
-    let sheet = program(b"    0\n");
-    assert_eq!(sheet.len(), 19 * 21);
+    let sheet = program(b"     0\n");
+    assert_eq!(sheet.len(), 19 * 25);
     assert_eq!(
-        sheet[..3 * 21],
+        sheet[..3 * 25],
         text("96 7 166 18 / 1 90 95 5 / 2 63 86 14")
     );
 }
@@ -87,7 +87,7 @@ fn the_sheet_of_seed_0_begins_so() {
 #[test]
 fn the_sheet_of_seed_21() {
     let sheet = text("96 5 156 2 / 1 90 93 1 / 2 96 96 1");
-    assert_eq!(program(b"   21\n"), sheet);
+    assert_eq!(program(b"    21\n"), sheet);
     assert_eq!(practice_sheet(21).text(), sheet);
 }
 
@@ -102,7 +102,7 @@ fn the_plan_of_seed_21() {
          4 1 96 0 / 5 1 96 0 / 93 1 1 1 / 96 1 2 1 / 3 52 0 0",
     );
     let expected = [b"PLAN\n", &plan[..]].concat();
-    assert_eq!(listing::program(&program(b"   21\n")), expected);
+    assert_eq!(listing::program(&program(b"    21\n")), expected);
 }
 
 /// Its causes: idle in 93 too, tank 1 has none of its four slots; busy in 94 or idle in 96,
@@ -111,7 +111,7 @@ fn the_plan_of_seed_21() {
 fn the_causes_of_seed_21() {
     let entries = "1 92 1 4 / 90 0 0 0 / 91 0 0 0 / 92 0 0 0 / 93 0 0 0 / \
          1 93 2 1 / 94 0 0 0 / 1 95 1 1 / 96 0 0 0";
-    assert_eq!(why(&program(b"   21\n")), text(entries));
+    assert_eq!(why(&program(b"    21\n")), text(entries));
 }
 
 /// Seed 133, the whole sheet:
@@ -125,7 +125,7 @@ fn the_causes_of_seed_21() {
 #[test]
 fn the_sheet_of_seed_133() {
     let sheet = text("96 1 113 2 / 1 47 75 7 / 2 50 96 34");
-    assert_eq!(program(b"  133\n"), sheet);
+    assert_eq!(program(b"   133\n"), sheet);
 }
 
 /// The first step by hand. For the last seed, which is 2^32 − 1, the product is 1,664,525
@@ -176,7 +176,7 @@ fn drawn_lines(seed: u32) -> Vec<[u32; 4]> {
 
 /// The text of these lines.
 fn bytes_of(lines: &[[u32; 4]]) -> Vec<u8> {
-    let line = |[a, b, c, d]: &[u32; 4]| format!("{a:>5}{b:>5}{c:>5}{d:>5}\n");
+    let line = |[a, b, c, d]: &[u32; 4]| format!("{a:>6}{b:>6}{c:>6}{d:>6}\n");
     lines.iter().map(line).collect::<String>().into_bytes()
 }
 
@@ -245,11 +245,11 @@ fn a_sheet_that_is_held() {
         sheet.blowers == 1 && volumes.sum::<u32>() > 96
     });
     let sheet = crowded.next().expect("such a seed");
-    assert!(listing::program(&sheet.text()).starts_with(b"HELD\n   12"));
+    assert!(listing::program(&sheet.text()).starts_with(b"HELD\n    12"));
 }
 
 #[test]
-fn the_program_takes_every_seed_of_five_columns() {
+fn the_program_takes_every_seed_to_99_999() {
     let seeds = [0, 1, 9, 10, 99, 100, 999, 1_000, 9_999, 10_000, 99_999];
     for seed in seeds.into_iter().chain((0..100_000).step_by(97)) {
         let sheet = bytes_of(&drawn_lines(seed));
@@ -257,11 +257,25 @@ fn the_program_takes_every_seed_of_five_columns() {
     }
 }
 
+/// A field holds more numbers than there are seeds, and the call takes these.
+#[test]
+fn a_number_above_99_999_is_no_seed_of_the_program() {
+    let numbers = [
+        100_000, 100_001, 100_021, 131_072, 165_535, 200_000, 999_998, 999_999,
+    ];
+    for number in numbers.into_iter().chain((100_000..1_000_000).step_by(997)) {
+        assert_eq!(field(number).len(), 7);
+        assert_eq!(program(&field(number)), REFUSED, "{number}");
+        let mut buffer = vec![7; 1_625];
+        assert_eq!(practice(number, &mut buffer).0, 0);
+    }
+}
+
 #[test]
 fn any_other_input_is_number_2_on_line_1() {
-    for length in [7, 262, 65_536, 65_542, 70_000] {
+    for length in [8, 263, 65_536, 65_543, 70_000] {
         let long = long_input(length);
-        assert_eq!((long.len(), &long[..6]), (length, &b"    1\n"[..]));
+        assert_eq!((long.len(), &long[..7]), (length, &b"     1\n"[..]));
         assert_eq!(program(&long), REFUSED, "{length}");
     }
     for input in OTHER_INPUTS {
@@ -274,15 +288,15 @@ fn any_other_input_is_number_2_on_line_1() {
 /// another seed, and no other byte does.
 #[test]
 fn only_digits_blanks_and_the_closing_byte_make_a_seed() {
-    for start in [b"  407\n", b"12345\n", b"    0\n"] {
-        for at in 0..6 {
+    for start in [b"   407\n", b" 12345\n", b"     0\n"] {
+        for at in 0..7 {
             for byte in 0..=255 {
                 let mut input = *start;
                 input[at] = byte;
-                let digits = String::from_utf8_lossy(&input[..5]);
+                let digits = String::from_utf8_lossy(&input[..6]);
                 let value: Option<u32> = digits.trim_start_matches(' ').parse().ok();
-                // A number has one text: any other form is no seed.
-                let seed = value.filter(|&seed| input[..] == field(seed)[..]);
+                // A number has one text: any other form is no seed, nor is a number above the last.
+                let seed = value.filter(|&seed| seed < 100_000 && input[..] == field(seed)[..]);
                 let expected = seed.map(|seed| practice_sheet(seed).text());
                 let expected = expected.unwrap_or(REFUSED.to_vec());
                 assert_eq!(program(&input), expected, "{input:?}");
@@ -313,10 +327,10 @@ fn the_call_settles_every_lent_byte() {
     }
 }
 
-/// A sheet without rations is its head line, and 21 bytes are enough for it.
+/// A sheet without rations is its head line, and 25 bytes are enough for it.
 #[test]
 fn the_shortest_sheet_and_the_longest() {
-    for (n, length) in [(0, 21), (64, 1_365)] {
+    for (n, length) in [(0, 25), (64, 1_625)] {
         let with_rations = |&seed: &u32| draw_at(seed, 3) % 65 == n;
         for seed in (0..20_000).filter(with_rations).take(20) {
             let mut buffer = vec![7; length];

@@ -47,13 +47,13 @@ fn the_words_of_a_day_with_two_blowers_busy() {
 /// Ration lines are counted, and not tanks: a tank's second meal has a bit of its own.
 #[test]
 fn each_meal_has_a_bit() {
-    let words = words_of(&text("4 1 1 3 / 5 1 1 1 / 5 2 3 2 / 900 4 4 1"), 0);
+    let words = words_of(&text("4 1 1 3 / 5 1 1 1 / 5 2 3 2 / 250000 4 4 1"), 0);
     assert_eq!(words, day_words(&[0b001, 0b010, 0b010, 0b100]));
 }
 
 #[test]
 fn a_day_without_rations_and_a_held_day_leave_zeros() {
-    assert_eq!(words_of(&text("96 8 200 0"), 0), [0; 96]);
+    assert_eq!(words_of(&text("96 8 2000 0"), 0), [0; 96]);
     assert_eq!(words_of(&text("3 1 1 2 / 1 1 2 2 / 2 2 3 2"), 12), [0; 96]);
 }
 
@@ -85,7 +85,7 @@ fn the_last_slot_and_the_last_ration() {
 #[test]
 fn a_word_too_few_is_refused() {
     let lent = vec![LENT; 95];
-    for day in ["1 1 0 0", "3 1 1 2 / 1 1 2 2 / 2 2 3 2", "96 8 200 0"] {
+    for day in ["1 1 0 0", "3 1 1 2 / 1 1 2 2 / 2 2 3 2", "96 8 2000 0"] {
         for words in [0, 1, 12, 95] {
             let mut placing = lent.clone();
             let few = Some(&mut placing[..words]);

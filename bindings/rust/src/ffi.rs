@@ -5,13 +5,15 @@
 use std::array;
 
 /// The least length of a plan buffer.
-const LISTING_BYTES: usize = 32_303;
+const LISTING_BYTES: usize = 38_455;
 /// The least length of a placing buffer, in words of 64 bits: a word for each slot that a day can have.
 const PLACING_WORDS: usize = 96;
 /// The least length of a buffer for causes.
 const CAUSES_BYTES: usize = 65_536;
-/// Bytes of a line of a sheet or of a listing.
-pub const LINE_BYTES: usize = 21;
+/// Columns of a field.
+pub const FIELD_COLUMNS: usize = 6;
+/// Bytes of a line of a sheet or of a listing: four fields and byte 10.
+pub const LINE_BYTES: usize = 4 * FIELD_COLUMNS + 1;
 /// The most rations of a sheet.
 pub const MAX_RATIONS: usize = 64;
 /// The most halls that are planned together.
@@ -93,6 +95,7 @@ mod calls {
     };
 
     extern "C" {
+        pub fn kiwimound_version_2() -> u32;
         pub fn kiwimound_read(sheet: *const u8, length: usize) -> Reading;
         pub fn kiwimound_write(
             slots: u32,
@@ -171,6 +174,10 @@ mod calls {
         ) -> CausesAnswer;
     }
 }
+
+/// Refers to the library's version by a name that no other version has, so that the crate links with no other.
+#[used]
+static LINKED_VERSION: unsafe extern "C" fn() -> u32 = calls::kiwimound_version_2;
 
 pub fn read(sheet: &[u8]) -> Reading {
     unsafe { calls::kiwimound_read(sheet.as_ptr(), sheet.len()) }

@@ -18,7 +18,7 @@ use std::fmt;
 /// use kiwimound::{plan_halls, Sheet};
 ///
 /// // One feeding in three slots, as late as can be; one blower for four halls.
-/// let sheet = Sheet::read("    3    1    1    1\n    1    1    3    1\n")?;
+/// let sheet = Sheet::read("     3     1     1     1\n     1     1     3     1\n")?;
 /// let days = plan_halls(1, &[&sheet; 4])?;
 /// let fed: Vec<u32> = days.iter().flatten().map(|plan| plan.feedings()[0].slot).collect();
 /// assert_eq!(fed, [3, 2, 1]);

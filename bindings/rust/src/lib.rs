@@ -1,15 +1,19 @@
 //! Plans the feed day of a trout farm: which blowers run in which quarter-hour, and what they feed.
 //!
-//! The planning is done by `libkiwimound.a`, whose every function is proved against a written definition. This crate
-//! adds types that leave little to get wrong: a [`Sheet`] is bytes that were accepted, so that each question about one
-//! has an answer; buffers have their full size; the listing comes back as numbers.
+//! The planning is done by `libkiwimound.a`, whose every function is proved against a written definition. The crate is
+//! for version 2 of it, and links with no other. It adds types that leave little to get wrong: a [`Sheet`] is bytes
+//! that were accepted, so that each question about one has an answer; buffers have their full size; the listing comes
+//! back as numbers.
 //!
 //! ```
 //! use kiwimound::{Sheet, State};
 //!
-//! let sheet = Sheet::read(
-//!     "    4    2    2    3\n    1    1    2    2\n    2    1    4    2\n    3    2    3    1\n",
-//! )?;
+//! let sheet = Sheet::read(concat!(
+//!     "     4     2     2     3\n",
+//!     "     1     1     2     2\n",
+//!     "     2     1     4     2\n",
+//!     "     3     2     3     1\n",
+//! ))?;
 //! let plan = sheet.plan()?;
 //! assert_eq!(plan.energy(), 9);
 //! assert_eq!(plan.bill(), 16);

@@ -1,8 +1,7 @@
 //! The lines of a listing as numbers.
-use crate::ffi::LINE_BYTES;
+use crate::ffi::{FIELD_COLUMNS, LINE_BYTES};
 
 const OPENING_BYTES: usize = 5;
-const WIDTH: usize = 5;
 
 /// The four numbers of each line after the opening word.
 pub fn lines_after_word(listing: &[u8]) -> impl Iterator<Item = [u32; 4]> + '_ {
@@ -12,7 +11,7 @@ pub fn lines_after_word(listing: &[u8]) -> impl Iterator<Item = [u32; 4]> + '_ {
 /// The four numbers of each line. The bytes are the library's, which writes fields in their stated form alone.
 pub fn lines(text: &[u8]) -> impl Iterator<Item = [u32; 4]> + '_ {
     text.chunks_exact(LINE_BYTES)
-        .map(|line| [0, 1, 2, 3].map(|f| number(&line[WIDTH * f..WIDTH * (f + 1)])))
+        .map(|line| [0, 1, 2, 3].map(|f| number(&line[FIELD_COLUMNS * f..][..FIELD_COLUMNS])))
 }
 
 fn number(field: &[u8]) -> u32 {

@@ -150,7 +150,11 @@ impl Plan {
     /// ```
     /// use kiwimound::Sheet;
     ///
-    /// let sheet = Sheet::read("    2    2    1    2\n    4    1    2    2\n    9    1    1    1\n")?;
+    /// let sheet = Sheet::read(concat!(
+    ///     "     2     2     1     2\n",
+    ///     "     4     1     2     2\n",
+    ///     "     9     1     1     1\n",
+    /// ))?;
     /// let plan = sheet.plan()?;
     /// assert!(plan.tanks_in(1).eq([4, 9]));
     /// assert!(plan.tanks_in(2).eq([4]));

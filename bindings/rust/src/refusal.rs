@@ -5,7 +5,7 @@ use std::fmt;
 /// The checks that a sheet must pass, by their numbers.
 #[derive(Clone, Copy, Debug, PartialEq, Eq, Hash, PartialOrd, Ord)]
 pub enum Fault {
-    /// 1: shorter than 21 bytes, longer than 65,520, or not a multiple of 21 long.
+    /// 1: shorter than 25 bytes, longer than 65,520, or not a multiple of 25 long.
     Length = 1,
     /// 2: a field is not in the stated form, or a line's closing byte 10 is missing.
     Field = 2,
@@ -13,11 +13,11 @@ pub enum Fault {
     Slots = 3,
     /// 4: blowers outside 1 to 8.
     Blowers = 4,
-    /// 5: a wake cost above 200.
+    /// 5: a wake cost above 2,000.
     Wake = 5,
     /// 6: rations above 64, or not the number of ration lines.
     Rations = 6,
-    /// 7: a tank outside 1 to 999, or below the tank before it.
+    /// 7: a tank outside 1 to 250,000, or below the tank before it.
     Tank = 7,
     /// 8: a window that breaks 1 ≤ first ≤ last ≤ slots.
     Window = 8,
@@ -49,16 +49,16 @@ impl Fault {
     fn words(self) -> &'static str {
         match self {
             Fault::Length => {
-                "the sheet's length is under 21 bytes, above 65,520 or no multiple of 21"
+                "the sheet's length is under 25 bytes, above 65,520 or no multiple of 25"
             }
             Fault::Field => {
                 "a field is not a number in the stated form, or the closing byte is missing"
             }
             Fault::Slots => "the slots are not 1 to 96",
             Fault::Blowers => "the blowers are not 1 to 8",
-            Fault::Wake => "the wake cost is above 200",
+            Fault::Wake => "the wake cost is above 2,000",
             Fault::Rations => "the rations are above 64 or not as many as the ration lines",
-            Fault::Tank => "the tank is not 1 to 999 or below the tank before it",
+            Fault::Tank => "the tank is not 1 to 250,000 or below the tank before it",
             Fault::Window => "the window breaks 1 ≤ first ≤ last ≤ slots",
             Fault::Volume => "the volume is 0 or above the window's length",
             Fault::Meal => {

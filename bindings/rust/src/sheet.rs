@@ -12,7 +12,7 @@ pub struct Head {
     pub slots: u32,
     /// Blowers, 1 to 8.
     pub blowers: u32,
-    /// What a start costs, 0 to 200.
+    /// What a start costs, 0 to 2,000.
     pub wake: u32,
 }
 
@@ -20,7 +20,7 @@ pub struct Head {
 /// one before.
 #[derive(Clone, Copy, Debug, PartialEq, Eq, Hash)]
 pub struct Ration {
-    /// The tank, 1 to 999; on a sheet, not below that of the ration before.
+    /// The tank, 1 to 250,000; on a sheet, not below that of the ration before.
     pub tank: u32,
     /// The first slot of its window.
     pub first: u32,
@@ -130,7 +130,7 @@ impl Sheet {
     /// let sheet = Sheet::practice(21);
     /// assert_eq!(
     ///     sheet.bytes(),
-    ///     b"   96    5  156    2\n    1   90   93    1\n    2   96   96    1\n"
+    ///     b"    96     5   156     2\n     1    90    93     1\n     2    96    96     1\n"
     /// );
     /// assert_eq!(Sheet::read(sheet.bytes()), Ok(sheet));
     /// ```
@@ -200,7 +200,7 @@ impl Sheet {
     /// ```
     /// use kiwimound::{Cause, Sheet};
     ///
-    /// let sheet = Sheet::read("    3    1    1    1\n    1    1    3    1\n")?;
+    /// let sheet = Sheet::read("     3     1     1     1\n     1     1     3     1\n")?;
     /// let causes = sheet.causes()?;
     /// // Blower 1 starts in slot 3 and no later: idle to slot 3, it leaves the ration none of its slots.
     /// let idle = &causes.endings()[0];
@@ -253,11 +253,11 @@ impl Sheet {
     /// use std::cmp::Ordering;
     ///
     /// // One feeding each, in slot 3: of tank 1, and of tank 7.
-    /// let sheet = Sheet::read("    3    1    1    1\n    1    1    3    1\n")?;
-    /// let other = Sheet::read("    3    1    1    1\n    7    3    3    1\n")?;
+    /// let sheet = Sheet::read("     3     1     1     1\n     1     1     3     1\n")?;
+    /// let other = Sheet::read("     3     1     1     1\n     7     3     3     1\n")?;
     /// assert_eq!(sheet.compare(&other), Some(Ordering::Less));
     /// // A shorter window and a second blower, and the same plan.
-    /// let other = Sheet::read("    3    2    1    1\n    1    2    3    1\n")?;
+    /// let other = Sheet::read("     3     2     1     1\n     1     2     3     1\n")?;
     /// assert_eq!(sheet.compare(&other), Some(Ordering::Equal));
     /// # Ok::<(), Box<dyn std::error::Error>>(())
     /// ```

@@ -1,5 +1,5 @@
-//! The days of document 01 ("Days at the edge"), days with several meals for a tank and days for the placing, for the
-//! bill, for the order of plans and for causes, through the safe interface.
+//! The days of document 01 ("Days at the edge"), days with several meals for a tank, days for the placing, for the
+//! bill, for the order of plans and for causes, and one with tanks numbered by site, through the safe interface.
 use kiwimound::{Bounds, Cause, Ending, Fault, Feeding, Head, Held, Ration, Refusal, Sheet, State};
 use std::cmp::Ordering;
 
@@ -65,8 +65,11 @@ fn stretches(sheet: &Sheet) -> Vec<(u32, u32, u32, State)> {
 
 #[test]
 fn written_and_read() {
-    let text =
-        "    4    2    2    3\n    1    1    2    2\n    2    1    4    2\n    3    2    3    1\n";
+    let text = "     4     2     2     3
+     1     1     2     2
+     2     1     4     2
+     3     2     3     1
+";
     let written = four_slots();
     assert_eq!(written.bytes(), text.as_bytes());
     assert_eq!(Sheet::read(text), Ok(written.clone()));
@@ -93,8 +96,8 @@ fn written_and_read() {
 fn found_by_tank() {
     let day = four_slots();
     let line = day.find(2).unwrap();
-    assert_eq!(line, b"    2    1    4    2\n");
-    assert_eq!(line.as_ptr(), day.bytes()[42..].as_ptr());
+    assert_eq!(line, b"     2     1     4     2\n");
+    assert_eq!(line.as_ptr(), day.bytes()[50..].as_ptr());
     assert_eq!(day.find(9), None);
     assert!(held().find(1).is_some());
 }
@@ -103,8 +106,11 @@ fn found_by_tank() {
 fn meals_of_a_tank() {
     let day = two_meals();
     let lines = day.find(1).unwrap();
-    assert_eq!(lines, b"    1    1    3    2\n    1    8   10    2\n");
-    assert_eq!(lines.as_ptr(), day.bytes()[21..].as_ptr());
+    assert_eq!(
+        lines,
+        b"     1     1     3     2\n     1     8    10     2\n"
+    );
+    assert_eq!(lines.as_ptr(), day.bytes()[25..].as_ptr());
     assert_eq!(day.meals(1), &day.rations()[..2]);
     assert_eq!(day.meals(2), &day.rations()[2..]);
     assert_eq!(day.meals(3), []);
@@ -177,9 +183,11 @@ fn first_listing() {
         }
     }
     assert!(!plan.is_fed(3, 1) && !plan.is_fed(64, 1) && !plan.is_fed(usize::MAX, u32::MAX));
-    assert!(plan.listing().starts_with(b"PLAN\n    9    2    4    5\n"));
-    assert!(plan.listing().ends_with(b"\n    0   16    0    0\n"));
-    assert_eq!(plan.listing().len(), 5 + 21 * (1 + 4 + 5 + 1));
+    assert!(plan
+        .listing()
+        .starts_with(b"PLAN\n     9     2     4     5\n"));
+    assert!(plan.listing().ends_with(b"\n     0    16     0     0\n"));
+    assert_eq!(plan.listing().len(), 5 + 25 * (1 + 4 + 5 + 1));
 }
 
 /// What a plan says of each slot, whether the day has it or not, beside the feed lines.
@@ -270,10 +278,10 @@ fn energies() {
         assert_eq!((plan.energy(), plan.starts()), (0, 0));
         assert_eq!(stretches(&empty), [(1, 1, 3, State::Off)]);
     }
-    assert_eq!(
-        sheet(1, 1, 200, &[[1, 1, 1, 1]]).plan().unwrap().energy(),
-        201
-    );
+    for (wake, energy) in [(200, 201), (2_000, 2_001)] {
+        let plan = sheet(1, 1, wake, &[[1, 1, 1, 1]]).plan().unwrap();
+        assert_eq!(plan.energy(), energy);
+    }
     assert_eq!(one_feeding().plan().unwrap().energy(), 2);
     assert_eq!(
         stretches(&one_feeding()),
@@ -301,9 +309,10 @@ fn bills() {
     assert_eq!(bill(sheet(70, 1, 0, &[[1, 32, 70, 39]])), 100);
     // two blowers, 54 each
     assert_eq!(bill(sheet(3, 2, 0, &[[1, 1, 3, 3], [2, 1, 3, 3]])), 11);
-    // eight blowers, 2,412 + 200 × 18 each
+    // eight blowers, 2,412 + 200 × 18 each, and 2,412 + 2,000 × 18
     let whole_day = [1, 2, 3, 4, 5, 6, 7, 8].map(|tank| [tank, 1, 96, 96]);
     assert_eq!(bill(sheet(96, 8, 200, &whole_day)), 4_810);
+    assert_eq!(bill(sheet(96, 8, 2_000, &whole_day)), 30_730);
 }
 
 #[test]
@@ -456,7 +465,7 @@ fn endings(sheet: &Sheet) -> Vec<Ending> {
     let causes = sheet.causes().unwrap();
     assert!(!causes.is_cut());
     let lines = causes.endings().iter().map(|e| 1 + e.cause.slots().len());
-    assert_eq!(causes.listing().len(), 21 * lines.sum::<usize>());
+    assert_eq!(causes.listing().len(), 25 * lines.sum::<usize>());
     causes.endings().to_vec()
 }
 
@@ -489,7 +498,7 @@ fn causes_of_the_first_listing() {
         ]
     );
     let causes = four_slots().causes().unwrap();
-    assert!(causes.listing().starts_with(b"    2    2    1    3\n"));
+    assert!(causes.listing().starts_with(b"     2     2     1     3\n"));
     let numbers: Vec<u32> = causes.endings().iter().map(|e| e.cause.number()).collect();
     assert_eq!(numbers, [1, 2, 1]);
 }
@@ -551,29 +560,30 @@ fn no_causes_of_a_held_sheet() {
     assert_eq!(held().causes().unwrap_err(), held().plan().unwrap_err());
 }
 
-/// Seven blowers have a ration each in slot 1 and in four slots late in the day, and three of them in slot 96; seven
-/// rations have the whole day. The slots that they feed are in the set of every busy stretch, so that the listing would
-/// have 3,121 lines, one more than there is room for.
+/// Seven blowers have a ration each in slot 1 and in three slots late in the day, six of them in slot 82, and two in
+/// slot 96; seven rations have the whole day. The slots that they feed are in the set of every busy stretch, so that
+/// the listing would have 2,622 lines, one more than there is room for.
 #[test]
 fn causes_cut() {
-    let mut rations = vec![[0, 1, 96, 85]; 7];
-    for slot in [1, 88, 90, 92, 94] {
+    let mut rations = vec![[0, 1, 96, 73]; 7];
+    for slot in [1, 76, 78, 80] {
         rations.extend([[0, slot, slot, 1]; 7]);
     }
-    rations.extend([[0, 96, 96, 1]; 3]);
+    rations.extend([[0, 82, 82, 1]; 6]);
+    rations.extend([[0, 96, 96, 1]; 2]);
     for (ration, tank) in rations.iter_mut().zip(1..) {
         ration[0] = tank;
     }
     let causes = sheet(96, 7, 1, &rations).causes().unwrap();
     assert!(causes.is_cut());
-    assert_eq!(causes.listing().len(), 21 * 3_119);
+    assert_eq!(causes.listing().len(), 25 * 2_620);
     let last = causes.endings().last().unwrap();
-    let slots: Vec<u32> = (2..=86).chain([95]).collect();
-    assert_eq!(*last, ending(1, 94, Cause::Excess { slots }));
+    let slots: Vec<u32> = (2..=74).chain([83]).collect();
+    assert_eq!(*last, ending(1, 82, Cause::Excess { slots }));
     // one ration less, and the last entry fits
-    let fewer = sheet(96, 7, 1, &rations[..44]).causes().unwrap();
+    let fewer = sheet(96, 7, 1, &rations[..42]).causes().unwrap();
     assert!(!fewer.is_cut());
-    assert_eq!(fewer.listing().len(), 21 * 3_119);
+    assert_eq!(fewer.listing().len(), 25 * 2_620);
     assert_eq!(fewer.endings().last().unwrap().last, 95);
 }
 
@@ -582,35 +592,42 @@ fn refused() {
     let read = |text: &str| Sheet::read(text).unwrap_err();
     let refusal = |fault, line| Refusal { fault, line };
     assert_eq!(read(""), refusal(Fault::Length, 0));
-    assert_eq!(read("    3    1    1    0 "), refusal(Fault::Field, 1));
-    assert_eq!(read("   97    1    1    0\n"), refusal(Fault::Slots, 1));
-    assert_eq!(read("    3    9    1    0\n"), refusal(Fault::Blowers, 1));
-    assert_eq!(read("    3    1  201    0\n"), refusal(Fault::Wake, 1));
-    assert_eq!(read("    3    1    1    1\n"), refusal(Fault::Rations, 1));
+    assert_eq!(read("     3     1     1     0 "), refusal(Fault::Field, 1));
+    assert_eq!(read("    97     1     1     0\n"), refusal(Fault::Slots, 1));
     assert_eq!(
-        read("    3    1    1    1\n    0    1    3    1\n"),
+        read("     3     9     1     0\n"),
+        refusal(Fault::Blowers, 1)
+    );
+    assert_eq!(read("     3     1  2001     0\n"), refusal(Fault::Wake, 1));
+    assert_eq!(
+        read("     3     1     1     1\n"),
+        refusal(Fault::Rations, 1)
+    );
+    assert_eq!(
+        read("     3     1     1     1\n     0     1     3     1\n"),
         refusal(Fault::Tank, 2)
     );
     assert_eq!(
-        read("    3    1    1    1\n    1    1    4    1\n"),
+        read("     3     1     1     1\n     1     1     4     1\n"),
         refusal(Fault::Window, 2)
     );
     assert_eq!(
-        read("    3    1    1    1\n    1    1    3    4\n"),
+        read("     3     1     1     1\n     1     1     3     4\n"),
         refusal(Fault::Volume, 2)
     );
     assert_eq!(
-        read("    3    1    1    2\n    2    1    1    1\n    1    2    3    1\n"),
+        read("     3     1     1     2\n     2     1     1     1\n     1     2     3     1\n"),
         refusal(Fault::Tank, 3)
     );
-    let meal = read("    3    1    1    2\n    2    1    2    1\n    2    2    3    1\n");
+    let meal =
+        read("     3     1     1     2\n     2     1     2     1\n     2     2     3     1\n");
     assert_eq!(meal, refusal(Fault::Meal, 3));
     assert_eq!(
         meal.to_string(),
         "refused, number 13, line 3: the meal begins at or before the end of the same tank's preceding window"
     );
     assert_eq!(
-        read("    3    1    1    1\n    1    1    4    1\n").to_string(),
+        read("     3     1     1     1\n     1     1     4     1\n").to_string(),
         "refused, number 8, line 2: the window breaks 1 ≤ first ≤ last ≤ slots"
     );
     let head = Head {
@@ -640,6 +657,134 @@ fn refused() {
         Sheet::write(head, &[whole_day; 2]),
         Err(refusal(Fault::Meal, 3))
     );
+}
+
+/// Tanks numbered by site and pond, up to the greatest number, and blowers whose start takes 1,500 units. Tanks 101004
+/// and 250000 take all slots of their windows; tank 249912 is fed in slot 3, and tank 101005 in slots 6 and 8. Blower 1
+/// stays on in slots 4 and 5, and blower 2 has the second feeding of slot 8: energy 9 + 2 × 1,500, at 18 tenths of a
+/// cent.
+#[test]
+fn tanks_numbered_by_site() {
+    let day = Sheet::read(include_str!("../../../examples/site_tanks.sheet")).unwrap();
+    let rations = [
+        [101_004, 1, 2, 2],
+        [101_005, 6, 8, 2],
+        [249_912, 1, 3, 1],
+        [250_000, 7, 8, 2],
+    ];
+    assert_eq!(day, sheet(8, 2, 1_500, &rations));
+    assert_eq!(day.find(250_000).unwrap(), b"250000     7     8     2\n");
+    assert_eq!(day.meals(101_005), &day.rations()[1..2]);
+    let plan = day.plan().unwrap();
+    assert_eq!(
+        (plan.energy(), plan.starts(), plan.bill()),
+        (3_009, 2, 5_416)
+    );
+    assert_eq!(
+        stretches(&day),
+        [
+            (1, 1, 3, State::Busy),
+            (1, 4, 5, State::IdleOn),
+            (1, 6, 8, State::Busy),
+            (2, 1, 7, State::Off),
+            (2, 8, 8, State::Busy)
+        ]
+    );
+    let slots: [&[u32]; 8] = [
+        &[101_004],
+        &[101_004],
+        &[249_912],
+        &[],
+        &[],
+        &[101_005],
+        &[250_000],
+        &[101_005, 250_000],
+    ];
+    assert_eq!(fed(&day), slots);
+    let last = plan.feedings().last().unwrap();
+    assert_eq!((last.blower, last.tank, last.part), (2, 250_000, 2));
+    // there is no blank between the blower and the tank
+    let end = b"\n     8     2250000     2\n    54    16     0     0\n";
+    assert!(plan.listing().ends_with(end));
+    assert_eq!(
+        endings(&day),
+        [
+            ending(2, 7, shortfall(&[7, 8])),
+            ending(1, 0, shortfall(&[1])),
+            ending(1, 3, excess(&[4])),
+            ending(1, 5, shortfall(&[6, 7]))
+        ]
+    );
+}
+
+#[test]
+fn greatest_wake_cost_and_tank() {
+    let write = |wake, tank| {
+        let head = Head {
+            slots: 1,
+            blowers: 1,
+            wake,
+        };
+        let ration = Ration {
+            tank,
+            first: 1,
+            last: 1,
+            volume: 1,
+        };
+        Sheet::write(head, &[ration])
+    };
+    let read = |wake: u32, tank: u32| {
+        let text = format!("     1     1{wake:6}     1\n{tank:6}     1     1     1\n");
+        Sheet::read(text)
+    };
+    let day = write(2_000, 250_000).unwrap();
+    let text = "     1     1  2000     1\n250000     1     1     1\n";
+    assert_eq!(day.bytes(), text.as_bytes());
+    assert_eq!(read(2_000, 250_000).as_ref(), Ok(&day));
+    assert_eq!(day.plan().unwrap().energy(), 2_001);
+    let bad_wake = Refusal {
+        fault: Fault::Wake,
+        line: 1,
+    };
+    let bad_tank = Refusal {
+        fault: Fault::Tank,
+        line: 2,
+    };
+    for wake in [2_001, 999_999] {
+        assert_eq!(write(wake, 1), Err(bad_wake));
+        assert_eq!(read(wake, 1), Err(bad_wake));
+    }
+    for tank in [250_001, 999_999] {
+        assert_eq!(write(2_000, tank), Err(bad_tank));
+        assert_eq!(read(2_000, tank), Err(bad_tank));
+    }
+    assert_eq!(write(2_000, 1_000_000), Err(bad_tank));
+    assert_eq!(
+        read(2_001, 1).unwrap_err().to_string(),
+        "refused, number 5, line 1: the wake cost is above 2,000"
+    );
+    assert_eq!(
+        read(2_000, 250_001).unwrap_err().to_string(),
+        "refused, number 7, line 2: the tank is not 1 to 250,000 or below the tank before it"
+    );
+}
+
+/// Lines of 21 bytes, with four fields of five columns: 25 divides the length of 25 and of 50 of them alone, and then
+/// the first line has byte 10 in a field.
+#[test]
+fn five_columns_are_refused() {
+    for n in 0..=64 {
+        let mut text = format!("{:5}{:5}{:5}{n:5}\n", 96, 8, 5);
+        for tank in 1..=n {
+            text += &format!("{tank:5}{:5}{:5}{:5}\n", 1, 96, 1);
+        }
+        assert_eq!(text.len(), 21 * (n + 1));
+        let (fault, line) = match n + 1 {
+            25 | 50 => (Fault::Field, 1),
+            _ => (Fault::Length, 0),
+        };
+        assert_eq!(Sheet::read(text), Err(Refusal { fault, line }));
+    }
 }
 
 #[test]

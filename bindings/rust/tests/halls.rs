@@ -1,13 +1,17 @@
 //! Halls that share a limit, through the safe interface.
 use kiwimound::{plan_halls, HallsRefusal, Held, Plan, Sheet};
 
-const FOUR_SLOTS: &str =
-    "    4    2    2    3\n    1    1    2    2\n    2    1    4    2\n    3    2    3    1\n";
-const ONE_FEEDING: &str = "    3    1    1    1\n    1    1    3    1\n";
+const FOUR_SLOTS: &str = "     4     2     2     3
+     1     1     2     2
+     2     1     4     2
+     3     2     3     1
+";
+const ONE_FEEDING: &str = "     3     1     1     1\n     1     1     3     1\n";
 /// Held alone.
-const HELD: &str = "    3    1    1    2\n    1    1    2    2\n    2    2    3    2\n";
-const LATE_FEEDING: &str = "    3    1    1    1\n    5    2    3    1\n";
-const TWO_FEEDINGS: &str = "    4    2    0    2\n    1    1    4    1\n    2    1    4    1\n";
+const HELD: &str = "     3     1     1     2\n     1     1     2     2\n     2     2     3     2\n";
+const LATE_FEEDING: &str = "     3     1     1     1\n     5     2     3     1\n";
+const TWO_FEEDINGS: &str =
+    "     4     2     0     2\n     1     1     4     1\n     2     1     4     1\n";
 
 fn sheets(texts: &[&str]) -> Vec<Sheet> {
     let read = |text: &&str| Sheet::read(*text).unwrap();
@@ -37,12 +41,12 @@ fn four_halls() {
     assert_eq!(
         days[1].as_ref().unwrap().listing(),
         b"PLAN
-    2    1    3    1
-    1    1    1    0
-    1    2    2    2
-    1    3    3    0
-    2    1    1    1
-    0    4    0    0
+     2     1     3     1
+     1     1     1     0
+     1     2     2     2
+     1     3     3     0
+     2     1     1     1
+     0     4     0     0
 "
     );
     let expected = Held {
@@ -67,7 +71,7 @@ fn in_the_order_of_the_slice() {
 /// Neither a held hall takes a blower, nor one whose day is over.
 #[test]
 fn what_is_not_taken() {
-    let one_slot = "    1    1    0    1\n    9    1    1    1\n";
+    let one_slot = "     1     1     0     1\n     9     1     1     1\n";
     let days = planned(1, &[HELD, FOUR_SLOTS, one_slot, ONE_FEEDING]);
     let [first, second] = [&days[0], &days[1]].map(|day| day.as_ref().unwrap_err());
     assert_eq!((first.forced, first.capacity), (2, 1));

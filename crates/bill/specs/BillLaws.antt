@@ -10,6 +10,7 @@ use lib.ListN.{length, getD}
 use borrow.Author.Tests.{leb-true}
 use Rattle.common.specs.Lists.{range, sum, every}
 use Rattle.common.specs.Tests.{and-true}
+use Rattle.checks.specs.Limits.{maxWake}
 use Rattle.method.specs.Intervals.{Interval, intervals, size}
 use Rattle.energy.specs.Energy.{state, listed, listedFor, onIn, onSlots, startAt, startsFrom, startsOf, starts, on, energy}
 use Rattle.energy.specs.EnergyLaws.{energy-most}
@@ -95,9 +96,10 @@ charge-le-energy m q counts = go (range 1 m)
           mul-add q (startsOf d q (intervals counts k)) (sum (map (λ k. startsOf d q (intervals counts k)) ks)),
         )
 
--- The charge of every sheet's day: at most 8 blowers, 96 slots and a wake cost of 200, and so at most 77,568 energy units.
+-- A bound of the charge of every sheet's day: at most 8 blowers, 96 slots and the greatest wake cost, and so at most
+-- 768,768 energy units.
 abbrev pub chargeMost : ℕ
-chargeMost = 36 * 77568
+chargeMost = 36 * (768 + maxWake * 384)
 
-pub charge-most : (m q : ℕ) (counts : List ℕ) → m ≤ 8 → q ≤ 200 → length counts ≤ 96 → charge m q counts ≤ chargeMost
+pub charge-most : (m q : ℕ) (counts : List ℕ) → m ≤ 8 → q ≤ maxWake → length counts ≤ 96 → charge m q counts ≤ chargeMost
 charge-most m q counts few wake-most day = omega (arith, charge-le-energy m q counts, energy-most m q counts few wake-most day)

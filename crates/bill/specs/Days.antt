@@ -25,13 +25,13 @@ days =
     -- the first listing of document 01: 9 energy units at 18
     day 2 2 (1 ∷ 1 ∷ 2 ∷ 1 ∷ []) 162 0 16
     ∷  -- no blower is on
-    day 8 200 (replicate 96 0) 0 0 0
+    day 8 2000 (replicate 96 0) 0 0 0
     ∷  -- a half cent goes upward: 5 units at 31 are 15 cents and a half
     day 1 4 (replicate 24 0 ++ 1 ∷ []) 155 0 16
     ∷  -- three blowers at 36 tenths each: the sum is 11 cents, where 4 for each would make 12
     day 3 1 (3 ∷ []) 108 0 11
     ∷  -- a start in slot 25 counts at 31, the rate of hour 6, and not at 18, that of slot 24
-    day 1 200 (replicate 24 0 ++ 1 ∷ 0 ∷ []) 6231 6 23
+    day 1 2000 (replicate 24 0 ++ 1 ∷ 0 ∷ []) 62031 62 3
     ∷  -- busy in every slot, with no wake cost: four times each of the 24 rates
     day 1 0 (replicate 96 1) 2412 2 41
     ∷  -- a short idle stretch is on and costs its slot; a long one is off, and the second start counts at the rate of its own slot

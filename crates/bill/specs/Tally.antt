@@ -3,6 +3,7 @@ use mathlib.Core.List.{List, [], _∷_}
 use Prim.Native.Nat.{ℕ, suc, _+_, _-_, _*_, _≤_}
 use lib.ListN.{replicate}
 use Rattle.common.specs.Lists.{flatMap}
+use Rattle.checks.specs.Limits.{maxWake}
 use Rattle.energy.specs.Energy.{listedFor, startAt}
 use Rattle.energy.specs.Usage.{Day}
 use Rattle.energy.specs.declared.Stretch.{Stretch}
@@ -36,13 +37,13 @@ tallyOf q counts k = withSlots q 1 (statesOf (listedFor q counts k)) noTally
 
 -- What the functions require --------------------------------------------------------
 
--- the most that a slot costs: 36 for each energy unit, at most 1 + 200 of them
+-- the most that a slot costs: 36 for each energy unit, its own and those of a start
 abbrev pub slotMost : ℕ
-slotMost = 7236
+slotMost = 36 * (1 + maxWake)
 
 -- a tally of so many slots at most
 pub record TallyTo (wake slots : ℕ) (y : Tally) : Type 0 where
-  pub wake-most : wake ≤ 200
+  pub wake-most : wake ≤ maxWake
   pub few : y .charge ≤ slots * slotMost
 
 -- a slot of a day, and a tally of the slots before it
@@ -60,4 +61,4 @@ pub record CanAddSlots (wake from end : ℕ) (y : Tally) : Type 0 where
 -- the counts of a day's slots, and a sheet's wake cost
 pub record CanTally (counts : List ℕ) (slots wake : ℕ) : Type 0 where
   pub counted : Day counts slots
-  pub wake-most : wake ≤ 200
+  pub wake-most : wake ≤ maxWake

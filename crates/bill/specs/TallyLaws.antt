@@ -9,6 +9,7 @@ use lib.Dec.{eqb, eqb·suc-zero}
 use lib.ListN.{length, replicate}
 use borrow.Author.Tests.{ne-eqb}
 use Rattle.common.specs.Lists.{range, sum}
+use Rattle.checks.specs.Limits.{maxWake}
 use Rattle.energy.specs.Energy.{state, startAt}
 use Rattle.energy.specs.EnergyLaws.{startAt-le}
 use Rattle.energy.specs.UsageSteps.{startAt-after-on, startAt-goes-on}
@@ -48,10 +49,10 @@ module _ (q t before x : ℕ) where
     slotCharge-start g = rw (ne-eqb x 0 f, ← startAt-goes-on before x g f, e) (omega arith)
 
 -- what a start costs, and its slot's rate
-pub start-le : (q t r : ℕ) → q ≤ 200 → r ≡ rateOf t → (r ≤ 36) × (q * r ≤ 7200)
+pub start-le : (q t r : ℕ) → q ≤ maxWake → r ≡ rateOf t → (r ≤ 36) × (q * r ≤ maxWake * 36)
 start-le q t r h e = let l : r ≤ 36 = rw e (rateOf-le t) in (l, mul-le-mul h l)
 
-pub slotCharge-le : (q t before x : ℕ) → q ≤ 200 → slotCharge q t before x ≤ slotMost
+pub slotCharge-le : (q t before x : ℕ) → q ≤ maxWake → slotCharge q t before x ≤ slotMost
 unfolding slotCharge
 slotCharge-le q t before x h = omega (arith, onRate-le x t, mul-le-mul (startAt-le before x) (mul-le-mul h (rateOf-le t)))
 

@@ -7,6 +7,7 @@ use Prim.Native.Nat.{ℕ, suc, _+_, _*_, _≤_, _<_}
 use native.Mathlib.Omega.{arith}
 use lib.ListN.{length, replicate, length-replicate}
 use Rattle.common.specs.Lists.{range, sum}
+use Rattle.checks.specs.Limits.{maxWake}
 use Rattle.method.specs.Intervals.{Interval, intervals, busyIn}
 use Rattle.method.specs.IntervalLaws.{Fill, intervals-fill}
 use Rattle.energy.specs.Energy.{listed, listedFor}
@@ -70,8 +71,9 @@ pub amount-cents : (x : ℕ) → (100 * amountOf x .hundreds + amountOf x .remai
 unfolding amountOf
 amount-cents x = (omega arith, omega arith)
 
--- The hundreds and the remaining cents of every sheet's day fit a field of five columns: at most 8 blowers, 96 slots and a wake cost of 200.
-pub amount-fits : (m q : ℕ) (counts : List ℕ) → m ≤ 8 → q ≤ 200 → length counts ≤ 96
-    → (amountOf (charge m q counts) .hundreds ≤ 2792) × (amountOf (charge m q counts) .remaining ≤ 99)
+-- Bounds of the hundreds and the remaining cents of every sheet's day, by which each fits a field: at most 8 blowers,
+-- 96 slots and the greatest wake cost.
+pub amount-fits : (m q : ℕ) (counts : List ℕ) → m ≤ 8 → q ≤ maxWake → length counts ≤ 96
+    → (amountOf (charge m q counts) .hundreds ≤ 27675) × (amountOf (charge m q counts) .remaining ≤ 99)
 unfolding amountOf centsOf
 amount-fits m q counts few wake-most day = (omega (arith, charge-most m q counts few wake-most day), omega arith)

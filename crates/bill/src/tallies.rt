@@ -4,6 +4,7 @@ use crate::rates;
 ghost use mathlib.Core.Path.{_≡_};
 ghost use Prim.Native.Nat.{_+_, _-_, _≤_};
 ghost use lib.ListN.{take, replicate};
+ghost use Rattle.checks.specs.Limits.{maxWake};
 ghost use Rattle.energy.specs.Energy.{listedFor};
 ghost use Rattle.energy.specs.Usage.{CanCharge};
 ghost use Rattle.bill.specs.Bill.{blowerCharge, charge};
@@ -11,7 +12,7 @@ ghost use Rattle.bill.specs.Tally.{slotCharge, withSlot, withSlots, CanA
 
 // What a slot costs in its state, after the state before it.
 fn slot_charge(wake: u32, slot: usize, before: u32, state: u32) -> u32
-    requires { ⌜ (1 ≤ slot) × (slot ≤ 96) × (wake ≤ 200) ⌝ }
+    requires { ⌜ (1 ≤ slot) × (slot ≤ 96) × (wake ≤ maxWake) ⌝ }
     ensures { λ r. ⌜ r ≡ slotCharge wake slot before state ⌝ }
 {
     if state == 0 {

@@ -1,5 +1,6 @@
 -- The stretches of a problem that end before slot D, where it is a whole day and can be planned: they are those that
--- the method ends, each cause is the true one, and their entries are read back from what is written. Assumes nothing.
+-- the method ends, each cause is the true one, the numbers of their entries fit their fields, and the entries are read
+-- back from what is written. Assumes nothing.
 use mathlib.Core.Path.{_≡_, _∙_, subst}
 use mathlib.Core.Logic.{_⊎_, inl, inr}
 use mathlib.Core.Bool.{true}
@@ -7,6 +8,7 @@ use mathlib.Core.List.{List, [], _∷_, map, List·Memᴰ, List·Memᴰ·head, L
 use Prim.Native.Nat.{ℕ, zero, suc, _≤_}
 use native.Mathlib.Omega.{arith}
 use lib.ListN.{take}
+use Rattle.common.specs.Lists.{flatMap}
 use Rattle.schedules.specs.Causes.{IsCause}
 use Rattle.method.specs.Method.{boundsUnder}
 use Rattle.method.specs.Keeping.{stretches}
@@ -15,10 +17,11 @@ use Rattle.method.specs.EndingLaws.{endings-by-method, endings-explained, endin
 use Rattle.cause_lines.specs.Entries.{entriesText}
 use Rattle.endings.specs.DayCauses.{dayEndings}
 use Rattle.planning.specs.Problem.{Problem, left, room, ProblemInRange, canBePlanned, settledCounts, countsOf}
+use Rattle.planning.specs.ReadLaws.{FitLines}
 use Rattle.planning.specs.ProblemLaws.{windows-left, possible, counts-whole}
 use Rattle.causes.specs.CauseCalls.{endingsOf}
 use Rattle.causes.specs.ReadCauses.{entriesIn, entryOf}
-use Rattle.causes.specs.ReadCauseLaws.{InFields, entries-read}
+use Rattle.causes.specs.ReadCauseLaws.{linesFor, InFields, fit-entries, entries-read}
 
 in-take : (n : ℕ) (es : List EndedStretch) (e : EndedStretch) → List·Memᴰ e (take n es) → List·Memᴰ e es
 in-take zero es e i = absurd (List·Memᴰ·not-nil i)
@@ -58,6 +61,10 @@ module _ (p : Problem) (g : ProblemInRange p) (whole : p .cut ≡ 0) (can : canB
       few (inl c) = omega (arith, c .0)
       few (inr (inl c)) = omega (arith, c .0)
       few (inr (inr c)) = omega (arith, c .0)
+
+  -- every number on the lines of their entries fits its field
+  pub causes-fit : FitLines (flatMap linesFor (endingsOf p))
+  causes-fit = fit-entries (g .values .head .slots .le) (endingsOf p) in-fields
 
   -- the entries of a front of them
   pub front-read : (n : ℕ) → entriesIn (entriesText (take n (endingsOf p))) ≡ map entryOf (take n (endingsOf p))

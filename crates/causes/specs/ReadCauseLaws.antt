@@ -24,7 +24,7 @@ use Rattle.planning.specs.ReadLaws.{FitsLine, FitLines, linesIn-written}
 use Rattle.causes.specs.ReadCauses.{entriesOn, entriesIn, entryOf}
 
 -- the lines of an entry, and of entries one after another
-abbrev linesFor : EndedStretch → List Line
+abbrev pub linesFor : EndedStretch → List Line
 linesFor e = entryLines (e .blower) (e .stretch .last) (e .cause)
 
 text-lines : (es : List EndedStretch) → entriesText es ≡ writeLines (flatMap linesFor es)
@@ -95,7 +95,7 @@ module _ {slots : ℕ} (day : slots ≤ maxSlots) where
             d = omega (arith, b .3);
           }
 
-  fit-entries : (es : List EndedStretch) → ((e : EndedStretch) → List·Memᴰ e es → InFields slots e) → FitLines (flatMap linesFor es)
+  pub fit-entries : (es : List EndedStretch) → ((e : EndedStretch) → List·Memᴰ e es → InFields slots e) → FitLines (flatMap linesFor es)
   fit-entries [] h l i = absurd (List·Memᴰ·not-nil i)
   fit-entries (e ∷ es) h l i = go (List·Memᴰ·append-cases (linesFor e) i) (fit-entries es (λ f j. h f (List·Memᴰ·tail j)) l)
     where

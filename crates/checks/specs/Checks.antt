@@ -46,7 +46,7 @@ headFaults s n agrees =
     ++ (fault badWake 1 (ltb maxWake (s .wake))
     ++ fault badRations 1 (ltb maxRations n || not agrees)))
 
--- 7: a tank outside 1 to 999, or below the tank before it (0 before the first)
+-- 7: a tank outside 1 to 250,000, or below the tank before it (0 before the first)
 unfoldable pub tankFault : ℕ → ℕ → Bool
 tankFault before tank = outside 1 maxTank tank || ltb tank before
 

@@ -11,6 +11,7 @@ pub mod SheetLaws
 pub mod FirstFaultyLaws
 pub mod FaultLaws
 pub mod WellFormedLaws
+pub mod EarlyClosingLaws
 -- What the functions within the crate are given, and the steps of their loops
 pub mod Parts
 pub mod CheckSteps

@@ -1,4 +1,5 @@
--- The limits of document 01's sheet, each named once; src/limits.rt names the same for the code. Definitions only.
+-- The limits of a sheet by document 01 and request 110, each named once; src/limits.rt names the same for the code.
+-- Definitions only.
 use Prim.Native.Nat.{ℕ}
 
 -- bytes of a sheet, at most
@@ -15,11 +16,11 @@ maxBlowers = 8
 
 -- q, at most
 abbrev pub maxWake : ℕ
-maxWake = 200
+maxWake = 2000
 
 -- n, at most
 abbrev pub maxRations : ℕ
 maxRations = 64
 
 abbrev pub maxTank : ℕ
-maxTank = 999
+maxTank = 250000

@@ -6,8 +6,8 @@ pub const MAX_SLOTS: u32 = 96;
 
 pub const MAX_BLOWERS: u32 = 8;
 
-pub const MAX_WAKE: u32 = 200;
+pub const MAX_WAKE: u32 = 2000;
 
 pub const MAX_RATIONS: u32 = 64;
 
-pub const MAX_TANK: u32 = 999;
+pub const MAX_TANK: u32 = 250000;

@@ -15,7 +15,7 @@ fn digest_output(sheet: &[u8]) {
     let planned = planning::plan_number(sheet);
     let output = program::answer(sheet);
     let bytes = output.bytes;
-    let mut room = [0u8; 32303];
+    let mut room = [0u8; 38455];
     cases::fill(&mut room);
     let front = cases::digest(cases::first_part(&bytes, output.length));
     io::write_all(1, b"O");
@@ -27,7 +27,7 @@ fn digest_output(sheet: &[u8]) {
 }
 
 fn plan(sheet: &[u8]) {
-    let mut room = [0u8; 32303];
+    let mut room = [0u8; 38455];
     let mut placing = [0u64; 96];
     cases::fill(&mut room);
     cases::fill_words(&mut placing);

@@ -1,5 +1,5 @@
 -- The days of 'Days at the edge' as one table: a question about a sheet's text, beside what document 01 says, and
--- requests 101 to 109 where they change that or say more. `answer` gives the answer of the definitions; a plan's
+-- requests 101 to 110 where they change that or say more. `answer` gives the answer of the definitions; a plan's
 -- numbers are read off the program's whole output. Assumes nothing.
 use mathlib.Core.Path.{_≡_, refl}
 use mathlib.Core.Bool.{Bool, false}
@@ -125,51 +125,51 @@ AsStated days = map (λ d. answer (d .asked)) days ≡ map (λ d. d .stated) day
 -- the listing's sheet
 abbrev listed : Sheet
 listed =
-    "    4    2    2    3"
-    ∷ "    1    1    2    2"
-    ∷ "    2    1    4    2"
-    ∷ "    3    2    3    1" ∷ []
+    "     4     2     2     3"
+    ∷ "     1     1     2     2"
+    ∷ "     2     1     4     2"
+    ∷ "     3     2     3     1" ∷ []
 
 -- the day that is held
 abbrev held : Sheet
-held = "    3    1    1    2" ∷ "    1    1    2    2" ∷ "    2    2    3    2" ∷ []
+held = "     3     1     1     2" ∷ "     1     1     2     2" ∷ "     2     2     3     2" ∷ []
 
 -- the day on which nearest-deadline feeding fails
 abbrev deadlines : Sheet
 deadlines =
-    "    3    2    1    3"
-    ∷ "    1    1    2    1"
-    ∷ "    2    1    2    1"
-    ∷ "    3    1    3    3" ∷ []
+    "     3     2     1     3"
+    ∷ "     1     1     2     1"
+    ∷ "     2     1     2     1"
+    ∷ "     3     1     3     3" ∷ []
 
 -- a day without rations, and a wake cost one above its slots, or equal to them
 abbrev idleLong : Sheet
-idleLong = "    3    1    4    0" ∷ []
+idleLong = "     3     1     4     0" ∷ []
 
 abbrev idleEqual : Sheet
-idleEqual = "    3    1    3    0" ∷ []
+idleEqual = "     3     1     3     0" ∷ []
 
--- the day of one slot with the greatest wake cost
+-- the day of one slot with a wake cost of 200
 abbrev oneSlot : Sheet
-oneSlot = "    1    1  200    1" ∷ "    1    1    1    1" ∷ []
+oneSlot = "     1     1   200     1" ∷ "     1     1     1     1" ∷ []
 
 -- the day with one feeding, in slot 3
 abbrev late : Sheet
-late = "    3    1    1    1" ∷ "    1    1    3    1" ∷ []
+late = "     3     1     1     1" ∷ "     1     1     3     1" ∷ []
 
 -- busy at both ends of the day, with a wake cost above the stretch between them, or equal to it
 abbrev endsOn : Sheet
-endsOn = "    3    1    2    2" ∷ "    1    1    1    1" ∷ "    2    3    3    1" ∷ []
+endsOn = "     3     1     2     2" ∷ "     1     1     1     1" ∷ "     2     3     3     1" ∷ []
 
 abbrev endsOff : Sheet
-endsOff = "    3    1    1    2" ∷ "    1    1    1    1" ∷ "    2    3    3    1" ∷ []
+endsOff = "     3     1     1     2" ∷ "     1     1     1     1" ∷ "     2     3     3     1" ∷ []
 
 -- a tank with two meals, the second window beginning in the slot after the first, or in its last slot
 abbrev meals : Sheet
-meals = "    4    1    1    3" ∷ "    5    1    2    1" ∷ "    5    3    4    1" ∷ "    9    1    4    1" ∷ []
+meals = "     4     1     1     3" ∷ "     5     1     2     1" ∷ "     5     3     4     1" ∷ "     9     1     4     1" ∷ []
 
 abbrev mealsMeet : Sheet
-mealsMeet = "    4    1    1    3" ∷ "    5    1    2    1" ∷ "    5    2    4    1" ∷ "    9    1    4    1" ∷ []
+mealsMeet = "     4     1     1     3" ∷ "     5     1     2     1" ∷ "     5     2     4     1" ∷ "     9     1     4     1" ∷ []
 
 -- The starred days ------------------------------------------------------------------
 
@@ -180,21 +180,21 @@ starredDays =
     (bytes
     (text
     ("PLAN"
-    ∷ "    9    2    4    5"
-    ∷ "    1    1    4    2"
-    ∷ "    2    1    2    0"
-    ∷ "    2    3    3    2"
-    ∷ "    2    4    4    0"
-    ∷ "    1    1    1    1"
-    ∷ "    2    1    1    2"
-    ∷ "    3    1    2    1"
-    ∷ "    3    2    3    1"
-    ∷ "    4    1    2    2"
-    ∷ "    0   16    0    0" ∷ [])))
+    ∷ "     9     2     4     5"
+    ∷ "     1     1     4     2"
+    ∷ "     2     1     2     0"
+    ∷ "     2     3     3     2"
+    ∷ "     2     4     4     0"
+    ∷ "     1     1     1     1"
+    ∷ "     2     1     1     2"
+    ∷ "     3     1     2     1"
+    ∷ "     3     2     3     1"
+    ∷ "     4     1     2     2"
+    ∷ "     0    16     0     0" ∷ [])))
     ∷ day (countsFor listed) (numbers (1 ∷ 1 ∷ 2 ∷ 1 ∷ []))
     ∷ day (energyFor listed) (number 9)
     ∷ day (billFor listed) (lines (line 0 16 0 0 ∷ []))
-    ∷ day (outputFor held) (bytes (text ("HELD" ∷ "   12    1    2    1" ∷ "    2    0    0    0" ∷ [])))
+    ∷ day (outputFor held) (bytes (text ("HELD" ∷ "    12     1     2     1" ∷ "     2     0     0     0" ∷ [])))
     ∷ day (shortfallFor held (1 ∷ 0 ∷ 0 ∷ [])) (signed 0 0 (pos 0))
     ∷ day (shortfallFor held (1 ∷ 1 ∷ 1 ∷ [])) (signed 0 0 (pos 1))
     ∷ day (shortfallFor listed (0 ∷ 0 ∷ 0 ∷ 1 ∷ [])) (signed 0 0 (negsuc 1))
@@ -214,7 +214,7 @@ starredDays =
     ∷ day (energyFor endsOff) (number 4)
     ∷ []
 
--- every starred day is as document 01 says, and requests 101 to 103 where they change that
+-- every starred day is as document 01 says, and requests 101 to 103 and 110 where they change that
 pub starred-days-as-stated : AsStated starredDays
 unfolding listings
 starred-days-as-stated = refl
@@ -225,24 +225,24 @@ starred-days-as-stated = refl
 -- from 1 up, and feedings slot by slot and not ration by ration
 abbrev pub otherDays : List Day
 otherDays =
-    day (outputFor ("   97    1    0    0" ∷ [])) (bytes (text ("HELD" ∷ "    3    1    0    0" ∷ [])))
-    ∷ day (outputFor ("   96    9    0    0" ∷ [])) (bytes (text ("HELD" ∷ "    4    1    0    0" ∷ [])))
-    ∷ day (outputFor ("   96    8  201    0" ∷ [])) (bytes (text ("HELD" ∷ "    5    1    0    0" ∷ [])))
-    ∷ day (countsFor ("    2    2    1    2" ∷ "    1    1    2    1" ∷ "    2    1    2    1" ∷ [])) (numbers (1 ∷ 1 ∷ []))
-    ∷ day (feedingsFor ("    3    1    1    3" ∷ "    1    2    3    1" ∷ "    2    1    3    1" ∷ "    3    1    2    1" ∷ []))
+    day (outputFor ("    97     1     0     0" ∷ [])) (bytes (text ("HELD" ∷ "     3     1     0     0" ∷ [])))
+    ∷ day (outputFor ("    96     9     0     0" ∷ [])) (bytes (text ("HELD" ∷ "     4     1     0     0" ∷ [])))
+    ∷ day (outputFor ("    96     8  2001     0" ∷ [])) (bytes (text ("HELD" ∷ "     5     1     0     0" ∷ [])))
+    ∷ day (countsFor ("     2     2     1     2" ∷ "     1     1     2     1" ∷ "     2     1     2     1" ∷ [])) (numbers (1 ∷ 1 ∷ []))
+    ∷ day (feedingsFor ("     3     1     1     3" ∷ "     1     2     3     1" ∷ "     2     1     3     1" ∷ "     3     1     2     1" ∷ []))
     (lines (line 1 1 2 1 ∷ line 2 1 3 1 ∷ line 3 1 1 1 ∷ []))
-    -- request 103: a day without an on slot, and one slot with the greatest wake cost
+    -- request 103: a day without an on slot, and one slot with a wake cost of 200
     ∷ day (billFor idleLong) (lines (line 0 0 0 0 ∷ []))
     ∷ day (billFor oneSlot) (lines (line 3 62 0 0 ∷ []))
     -- request 102: both meals are fed, their parts counted within each; a meal that begins in the last slot of the one
     -- before; the order 7, 8, 9, 13 on a line; the lines of a tank
     ∷ day (feedingsFor meals) (lines (line 2 1 5 1 ∷ line 3 1 5 1 ∷ line 4 1 9 1 ∷ []))
-    ∷ day (outputFor mealsMeet) (bytes (text ("HELD" ∷ "   13    3    0    0" ∷ [])))
-    ∷ day (outputFor ("    4    1    1    2" ∷ "    5    1    2    1" ∷ "    5    2    2    2" ∷ [])) (bytes (text ("HELD" ∷ "    9    3    0    0" ∷ [])))
-    ∷ day (outputFor ("    4    1    1    2" ∷ "    5    1    2    1" ∷ "    5    2    1    2" ∷ [])) (bytes (text ("HELD" ∷ "    8    3    0    0" ∷ [])))
-    ∷ day (outputFor ("    4    1    1    2" ∷ "    5    1    2    1" ∷ "    4    3    3    1" ∷ [])) (bytes (text ("HELD" ∷ "    7    3    0    0" ∷ [])))
-    ∷ day (linesFor meals 5) (bytes (text ("    5    1    2    1" ∷ "    5    3    4    1" ∷ [])))
-    ∷ day (linesFor meals 9) (bytes (text ("    9    1    4    1" ∷ [])))
+    ∷ day (outputFor mealsMeet) (bytes (text ("HELD" ∷ "    13     3     0     0" ∷ [])))
+    ∷ day (outputFor ("     4     1     1     2" ∷ "     5     1     2     1" ∷ "     5     2     2     2" ∷ [])) (bytes (text ("HELD" ∷ "     9     3     0     0" ∷ [])))
+    ∷ day (outputFor ("     4     1     1     2" ∷ "     5     1     2     1" ∷ "     5     2     1     2" ∷ [])) (bytes (text ("HELD" ∷ "     8     3     0     0" ∷ [])))
+    ∷ day (outputFor ("     4     1     1     2" ∷ "     5     1     2     1" ∷ "     4     3     3     1" ∷ [])) (bytes (text ("HELD" ∷ "     7     3     0     0" ∷ [])))
+    ∷ day (linesFor meals 5) (bytes (text ("     5     1     2     1" ∷ "     5     3     4     1" ∷ [])))
+    ∷ day (linesFor meals 9) (bytes (text ("     9     1     4     1" ∷ [])))
     ∷ day (linesFor meals 4) (bytes [])
     ∷ day (linesFor mealsMeet 5) (bytes [])
     ∷ []
@@ -280,33 +280,33 @@ causeDays =
     day (causesFor listed)
     (bytes
     (text
-    ("    2    2    1    3"
-    ∷ "    1    0    0    0"
-    ∷ "    2    0    0    0"
-    ∷ "    3    0    0    0"
-    ∷ "    2    3    2    1"
-    ∷ "    4    0    0    0"
-    ∷ "    1    0    1    1"
-    ∷ "    1    0    0    0" ∷ [])))
-    ∷ day (causesFor ("    1    2    1    2" ∷ "    1    1    1    1" ∷ "    2    1    1    1" ∷ []))
-    (bytes (text ("    2    0    1    1" ∷ "    1    0    0    0" ∷ "    1    0    3    1" ∷ "    1    0    0    0" ∷ [])))
+    ("     2     2     1     3"
+    ∷ "     1     0     0     0"
+    ∷ "     2     0     0     0"
+    ∷ "     3     0     0     0"
+    ∷ "     2     3     2     1"
+    ∷ "     4     0     0     0"
+    ∷ "     1     0     1     1"
+    ∷ "     1     0     0     0" ∷ [])))
+    ∷ day (causesFor ("     1     2     1     2" ∷ "     1     1     1     1" ∷ "     2     1     1     1" ∷ []))
+    (bytes (text ("     2     0     1     1" ∷ "     1     0     0     0" ∷ "     1     0     3     1" ∷ "     1     0     0     0" ∷ [])))
     ∷ day
     (causesFor
-    ("    3    2    0    4" ∷ "    1    1    1    1" ∷ "    2    1    1    1" ∷ "    3    2    3    1" ∷ "    4    2    2    1" ∷ []))
+    ("     3     2     0     4" ∷ "     1     1     1     1" ∷ "     2     1     1     1" ∷ "     3     2     3     1" ∷ "     4     2     2     1" ∷ []))
     (bytes
     (text
-    ("    2    0    1    1"
-    ∷ "    1    0    0    0"
-    ∷ "    2    2    2    2"
-    ∷ "    2    0    0    0"
-    ∷ "    3    0    0    0"
-    ∷ "    1    0    3    1"
-    ∷ "    1    0    0    0"
-    ∷ "    1    2    2    2"
-    ∷ "    2    0    0    0"
-    ∷ "    3    0    0    0" ∷ [])))
+    ("     2     0     1     1"
+    ∷ "     1     0     0     0"
+    ∷ "     2     2     2     2"
+    ∷ "     2     0     0     0"
+    ∷ "     3     0     0     0"
+    ∷ "     1     0     3     1"
+    ∷ "     1     0     0     0"
+    ∷ "     1     2     2     2"
+    ∷ "     2     0     0     0"
+    ∷ "     3     0     0     0" ∷ [])))
     ∷ day (causesFor idleLong) (bytes [])
-    ∷ day (causesFor held) (bytes (text ("HELD" ∷ "   12    1    2    1" ∷ "    2    0    0    0" ∷ [])))
+    ∷ day (causesFor held) (bytes (text ("HELD" ∷ "    12     1     2     1" ∷ "     2     0     0     0" ∷ [])))
     ∷ []
 
 pub cause-days-as-stated : AsStated causeDays
@@ -317,22 +317,26 @@ cause-days-as-stated = refl
 
 -- refusal 2, line 1
 abbrev noSeed : Answer
-noSeed = bytes (text ("HELD" ∷ "    2    1    0    0" ∷ []))
+noSeed = bytes (text ("HELD" ∷ "     2     1     0     0" ∷ []))
 
 -- Seed 21 by its draws: 16,004, 12,015 and 13,002 for the head line, 29,177, 24,895 and 21,216 for tank 1, 25,919,
--- 57,622 and 12,504 for tank 2. Seed 9: 15,699, 6,219 and 64,350, which 65 divides, so that there is no ration. Then
--- inputs that are no seed: a leading zero, a column less and one more, a blank after the digits, a second line, nothing
--- at all.
+-- 57,622 and 12,504 for tank 2. Seed 9: 15,699, 6,219 and 64,350, which 65 divides, so that there is no ration. Seed
+-- 99,962: 64,001, 13,653 and 41,146, then 58,840, 44,835 and 19,366 for tank 1. Then inputs that are no seed: a number
+-- above 99,999, a leading zero, a column less, as five columns had it, and one more, a blank after the digits, a second
+-- line, nothing at all.
 abbrev pub practiceDays : List Day
 practiceDays =
-    day (practiceFor ("   21" ∷ []))
-    (bytes (text ("   96    5  156    2" ∷ "    1   90   93    1" ∷ "    2   96   96    1" ∷ [])))
-    ∷ day (practiceFor ("    9" ∷ [])) (bytes (text ("   96    4  189    0" ∷ [])))
-    ∷ day (practiceFor ("00021" ∷ [])) noSeed
-    ∷ day (practiceFor ("  21" ∷ [])) noSeed
-    ∷ day (practiceFor ("    21" ∷ [])) noSeed
-    ∷ day (practiceFor ("  21 " ∷ [])) noSeed
-    ∷ day (practiceFor ("   21" ∷ "   21" ∷ [])) noSeed
+    day (practiceFor ("    21" ∷ []))
+    (bytes (text ("    96     5   156     2" ∷ "     1    90    93     1" ∷ "     2    96    96     1" ∷ [])))
+    ∷ day (practiceFor ("     9" ∷ [])) (bytes (text ("    96     4   189     0" ∷ [])))
+    ∷ day (practiceFor (" 99962" ∷ [])) (bytes (text ("    96     2   186     1" ∷ "     1    89    92     3" ∷ [])))
+    ∷ day (practiceFor ("100000" ∷ [])) noSeed
+    ∷ day (practiceFor ("999999" ∷ [])) noSeed
+    ∷ day (practiceFor ("000021" ∷ [])) noSeed
+    ∷ day (practiceFor ("   21" ∷ [])) noSeed
+    ∷ day (practiceFor ("     21" ∷ [])) noSeed
+    ∷ day (practiceFor ("   21 " ∷ [])) noSeed
+    ∷ day (practiceFor ("    21" ∷ "    21" ∷ [])) noSeed
     ∷ day (practiceFor []) noSeed
     ∷ []
 
@@ -345,16 +349,16 @@ practice-days-as-stated = refl
 -- one ration of two feedings in three slots, for two blowers; the day of one slot; a feeding in the second slot alone;
 -- two feedings in one slot, for one blower
 abbrev twoOfThree : Sheet
-twoOfThree = "    3    2    1    1" ∷ "    1    1    3    2" ∷ []
+twoOfThree = "     3     2     1     1" ∷ "     1     1     3     2" ∷ []
 
 abbrev firstSlot : Sheet
-firstSlot = "    1    1    1    1" ∷ "    1    1    1    1" ∷ []
+firstSlot = "     1     1     1     1" ∷ "     1     1     1     1" ∷ []
 
 abbrev secondSlot : Sheet
-secondSlot = "    2    1    1    1" ∷ "    7    2    2    1" ∷ []
+secondSlot = "     2     1     1     1" ∷ "     7     2     2     1" ∷ []
 
 abbrev twoInOne : Sheet
-twoInOne = "    1    1    1    2" ∷ "    1    1    1    1" ∷ "    2    1    1    1" ∷ []
+twoInOne = "     1     1     1     2" ∷ "     1     1     1     1" ∷ "     2     1     1     1" ∷ []
 
 -- Blower 2 of the first sheet is idle all day, and blower 1 as long as two slots are left: it is busy in the slots 2
 -- and 3. Under limit 1 the same sheet in a second hall has the room 1, 0, 0: at least one feeding is forced into the
@@ -367,11 +371,11 @@ hallDays =
     day (hallsFor 1 (twoOfThree ∷ twoOfThree ∷ firstSlot ∷ [])) (numbers (0 ∷ 0 ∷ 0 ∷ 0 ∷ 12 ∷ 0 ∷ 0 ∷ 0 ∷ []))
     ∷ day (hallCountsFor 1 (twoOfThree ∷ twoOfThree ∷ firstSlot ∷ []) 0 3) (numbers (0 ∷ 1 ∷ 1 ∷ []))
     ∷ day (hallTextFor 1 (twoOfThree ∷ twoOfThree ∷ firstSlot ∷ []) 1)
-    (bytes (text ("HELD" ∷ "   12    2    1    0" ∷ "    2    0    0    0" ∷ "    3    0    0    0" ∷ [])))
+    (bytes (text ("HELD" ∷ "    12     2     1     0" ∷ "     2     0     0     0" ∷ "     3     0     0     0" ∷ [])))
     ∷ day (hallCountsFor 1 (twoOfThree ∷ twoOfThree ∷ firstSlot ∷ []) 2 3) (numbers (1 ∷ 0 ∷ 0 ∷ []))
     ∷ day (hallCountsFor 2 (twoOfThree ∷ twoOfThree ∷ []) 1 3) (numbers (0 ∷ 1 ∷ 1 ∷ []))
-    ∷ day (hallsFor 1 (("   97    1    0    0" ∷ []) ∷ twoOfThree ∷ [])) (numbers (0 ∷ 0 ∷ 3 ∷ 1 ∷ 0 ∷ 0 ∷ []))
-    ∷ day (hallCountsFor 1 (("   97    1    0    0" ∷ []) ∷ twoOfThree ∷ []) 1 3) (numbers (0 ∷ 1 ∷ 1 ∷ []))
+    ∷ day (hallsFor 1 (("    97     1     0     0" ∷ []) ∷ twoOfThree ∷ [])) (numbers (0 ∷ 0 ∷ 3 ∷ 1 ∷ 0 ∷ 0 ∷ []))
+    ∷ day (hallCountsFor 1 (("    97     1     0     0" ∷ []) ∷ twoOfThree ∷ []) 1 3) (numbers (0 ∷ 1 ∷ 1 ∷ []))
     ∷ day (hallsFor 1 (firstSlot ∷ secondSlot ∷ firstSlot ∷ [])) (numbers (0 ∷ 0 ∷ 0 ∷ 0 ∷ 0 ∷ 0 ∷ 12 ∷ 0 ∷ []))
     ∷ day (hallsFor 2 (firstSlot ∷ firstSlot ∷ firstSlot ∷ secondSlot ∷ [])) (numbers (0 ∷ 0 ∷ 0 ∷ 0 ∷ 0 ∷ 0 ∷ 12 ∷ 0 ∷ 0 ∷ 0 ∷ []))
     ∷ day (hallsFor 32 (twoInOne ∷ [])) (numbers (0 ∷ 0 ∷ 12 ∷ 0 ∷ []))
@@ -390,41 +394,41 @@ hall-days-as-stated = refl
 
 -- one tank in the only slot, and another one; a wake cost; two tanks
 abbrev tankOne : Sheet
-tankOne = "    1    2    0    1" ∷ "    1    1    1    1" ∷ []
+tankOne = "     1     2     0     1" ∷ "     1     1     1     1" ∷ []
 
 abbrev tankTwo : Sheet
-tankTwo = "    1    2    0    1" ∷ "    2    1    1    1" ∷ []
+tankTwo = "     1     2     0     1" ∷ "     2     1     1     1" ∷ []
 
 abbrev tankOneWaking : Sheet
-tankOneWaking = "    1    1    5    1" ∷ "    1    1    1    1" ∷ []
+tankOneWaking = "     1     1     5     1" ∷ "     1     1     1     1" ∷ []
 
 abbrev bothTanks : Sheet
-bothTanks = "    1    2    0    2" ∷ "    1    1    1    1" ∷ "    2    1    1    1" ∷ []
+bothTanks = "     1     2     0     2" ∷ "     1     1     1     1" ∷ "     2     1     1     1" ∷ []
 
 abbrev oneAndThree : Sheet
-oneAndThree = "    1    2    0    2" ∷ "    1    1    1    1" ∷ "    3    1    1    1" ∷ []
+oneAndThree = "     1     2     0     2" ∷ "     1     1     1     1" ∷ "     3     1     1     1" ∷ []
 
 abbrev tankNine : Sheet
-tankNine = "    1    1    0    1" ∷ "    9    1    1    1" ∷ []
+tankNine = "     1     1     0     1" ∷ "     9     1     1     1" ∷ []
 
 abbrev tankTen : Sheet
-tankTen = "    1    1    0    1" ∷ "   10    1    1    1" ∷ []
+tankTen = "     1     1     0     1" ∷ "    10     1     1     1" ∷ []
 
 -- two slots: tank 1 in the first or in the last; tank 2 first and tank 1 last, and the other way; tank 3 first
 abbrev oneFirst : Sheet
-oneFirst = "    2    1    0    1" ∷ "    1    1    1    1" ∷ []
+oneFirst = "     2     1     0     1" ∷ "     1     1     1     1" ∷ []
 
 abbrev oneLast : Sheet
-oneLast = "    2    1    0    1" ∷ "    1    2    2    1" ∷ []
+oneLast = "     2     1     0     1" ∷ "     1     2     2     1" ∷ []
 
 abbrev twoThenOne : Sheet
-twoThenOne = "    2    1    0    2" ∷ "    1    2    2    1" ∷ "    2    1    1    1" ∷ []
+twoThenOne = "     2     1     0     2" ∷ "     1     2     2     1" ∷ "     2     1     1     1" ∷ []
 
 abbrev oneThenTwo : Sheet
-oneThenTwo = "    2    1    0    2" ∷ "    1    1    1    1" ∷ "    2    2    2    1" ∷ []
+oneThenTwo = "     2     1     0     2" ∷ "     1     1     1     1" ∷ "     2     2     2     1" ∷ []
 
 abbrev threeFirst : Sheet
-threeFirst = "    2    1    0    1" ∷ "    3    1    1    1" ∷ []
+threeFirst = "     2     1     0     1" ∷ "     3     1     1     1" ∷ []
 
 -- The first two sheets have the same counts, and other tanks: the base had them as the same day. Another wake cost and
 -- another number of blowers leave the plan the same. A list that ends first is smaller, the empty list too. Smaller D
@@ -441,7 +445,7 @@ comparisonDays =
     ∷ day (orderFor bothTanks tankTwo) (numbers (0 ∷ 0 ∷ 2 ∷ []))
     ∷ day (orderFor oneLast oneFirst) (numbers (0 ∷ 0 ∷ 2 ∷ []))
     ∷ day (orderFor tankTwo oneFirst) (numbers (0 ∷ 0 ∷ 2 ∷ []))
-    ∷ day (orderFor ("    2    1    0    0" ∷ []) ("    1    1    0    0" ∷ [])) (numbers (0 ∷ 0 ∷ 3 ∷ []))
+    ∷ day (orderFor ("     2     1     0     0" ∷ []) ("     1     1     0     0" ∷ [])) (numbers (0 ∷ 0 ∷ 3 ∷ []))
     ∷ day (orderFor twoThenOne oneThenTwo) (numbers (0 ∷ 0 ∷ 3 ∷ []))
     ∷ day (orderFor threeFirst twoThenOne) (numbers (0 ∷ 0 ∷ 3 ∷ []))
     ∷ day (orderFor oneThenTwo oneThenTwo) (numbers (0 ∷ 0 ∷ 1 ∷ []))
@@ -451,10 +455,50 @@ comparisonDays =
     ∷ day (orderFor held []) (numbers (12 ∷ 0 ∷ 0 ∷ []))
     ∷ day (orderFor [] held) (numbers (1 ∷ 0 ∷ 0 ∷ []))
     ∷ day (orderFor tankOne held) (numbers (12 ∷ 0 ∷ 0 ∷ []))
-    ∷ day (orderFor tankOne ("   97    1    0    0" ∷ [])) (numbers (3 ∷ 1 ∷ 0 ∷ []))
+    ∷ day (orderFor tankOne ("    97     1     0     0" ∷ [])) (numbers (3 ∷ 1 ∷ 0 ∷ []))
     ∷ day (orderFor held held) (numbers (12 ∷ 0 ∷ 0 ∷ []))
     ∷ []
 
 pub comparison-days-as-stated : AsStated comparisonDays
 unfolding comparisons
 comparison-days-as-stated = refl
+
+-- Six columns (request 110) ----------------------------------------------------------------
+
+-- the greatest tank and the greatest wake cost
+abbrev greatest : Sheet
+greatest = "     1     1  2000     1" ∷ "250000     1     1     1" ∷ []
+
+-- the head of a day without rations in lines of five columns, as they were before
+abbrev fiveColumns : String
+fiveColumns = "    1    1    0    0"
+
+-- The greatest tank is fed, and looked up, with a digit in every column; the start of its slot costs 2,000 units at 18
+-- tenths of a cent, and the slot one more. One tank more is 7, a wake cost one greater is 5. A number that fills the
+-- field is read, and is no number of slots. A line of five columns is 1, and so is one of seven; 25 lines of five
+-- columns have the length of 21 lines of six and are 2. A leading zero in the first column, and a blank in the last,
+-- are 2.
+abbrev pub columnDays : List Day
+columnDays =
+    day (outputFor greatest)
+    (bytes
+    (text
+    ("PLAN"
+    ∷ "  2001     1     1     1"
+    ∷ "     1     1     1     2"
+    ∷ "     1     1250000     1"
+    ∷ "    36     2     0     0" ∷ [])))
+    ∷ day (linesFor greatest 250000) (bytes (text ("250000     1     1     1" ∷ [])))
+    ∷ day (outputFor ("     1     1  2000     1" ∷ "250001     1     1     1" ∷ [])) (bytes (text ("HELD" ∷ "     7     2     0     0" ∷ [])))
+    ∷ day (outputFor ("     1     1  2001     1" ∷ "250000     1     1     1" ∷ [])) (bytes (text ("HELD" ∷ "     5     1     0     0" ∷ [])))
+    ∷ day (outputFor ("999999     1     0     0" ∷ [])) (bytes (text ("HELD" ∷ "     3     1     0     0" ∷ [])))
+    ∷ day (outputFor (fiveColumns ∷ [])) (bytes (text ("HELD" ∷ "     1     0     0     0" ∷ [])))
+    ∷ day (outputFor ("      1      1      0      0" ∷ [])) (bytes (text ("HELD" ∷ "     1     0     0     0" ∷ [])))
+    ∷ day (outputFor (replicate 25 fiveColumns)) (bytes (text ("HELD" ∷ "     2     1     0     0" ∷ [])))
+    ∷ day (outputFor ("000001     1     0     0" ∷ [])) (bytes (text ("HELD" ∷ "     2     1     0     0" ∷ [])))
+    ∷ day (outputFor ("     1     1     0    0 " ∷ [])) (bytes (text ("HELD" ∷ "     2     1     0     0" ∷ [])))
+    ∷ []
+
+pub column-days-as-stated : AsStated columnDays
+unfolding listings tankLines lookUp
+column-days-as-stated = refl

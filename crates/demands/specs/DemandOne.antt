@@ -20,7 +20,7 @@ use lib.ListN.{length, take, replicate}
 use Rattle.common.specs.Lists.{count}
 use Rattle.lookup.specs.declared.Part.{Part}
 use Rattle.line.specs.Layout.{lineBytes, fields}
-use Rattle.checks.specs.Limits.{maxBytes, maxRations}
+use Rattle.checks.specs.Limits.{maxRations}
 use Rattle.checks.specs.Refusals.{badLength, badForm, shortBuffer}
 use Rattle.checks.specs.Sheet.{Sheet, sheetOf, sheetFrom, writeSheet}
 use Rattle.checks.specs.Checks.{fault, outside, valueFaults, faults}
@@ -169,8 +169,8 @@ pub record DemandOne : Type 0 where
 
   pub program : (b : List ℕ) → let r = planRefusal b false in let p = alone (sheetOf b) in
       FirstOf (planChecks (faults b) false p) (r .number) (r .line) × ProgramText p (r .number) (r .line) (programText b)
-  -- what lies beyond one byte more than the longest sheet has no part in it: so much is read
-  pub program-too-long : (b : List ℕ) → maxBytes < length b → programText b ≡ refusalText badLength 0
+  -- an input of more than 65,520 bytes is refused whatever it holds: no more than 65,521 need be read
+  pub program-too-long : (b : List ℕ) → 65520 < length b → programText b ≡ refusalText badLength 0
   -- the program `why`: the causes' listing where its input is planned, and on every refusal, 12 too, what the planner
   -- writes
   pub why : (b : List ℕ) → let n = planRefusal b false .number in let p = alone (sheetOf b) in

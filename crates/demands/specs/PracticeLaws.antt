@@ -3,7 +3,6 @@
 use mathlib.Core.Path.{_≡_, sym, ap, subst₂, _∙_}
 use mathlib.Core.List.{List, []}
 use Prim.Native.Nat.{ℕ, suc, _*_, _≤_}
-use native.Mathlib.Omega.{arith}
 use lib.ListN.{length, take}
 use Rattle.common.specs.BufferLaws.{take-over}
 use Rattle.line.specs.Layout.{lineBytes}
@@ -40,7 +39,7 @@ module _ (seed : ℕ) where
 
   -- the program
   pub practice-taken : seed ≤ 99999 → practiceText (seedInput seed) ≡ writeSheet (practiceSheet seed)
-  practice-taken h = made-front (seedInput seed) ∙ seed-taken seed (omega arith)
+  practice-taken h = made-front (seedInput seed) ∙ seed-taken seed h
 
 pub practice-refused : (b : List ℕ) → ((seed : ℕ) → seed ≤ 99999 → b ≡ seedInput seed → ⊥) → practiceText b ≡ refusalText badForm 1
-practice-refused b none = made-front b ∙ seed-refused b (λ seed h. none seed (omega arith))
+practice-refused b none = made-front b ∙ seed-refused b none

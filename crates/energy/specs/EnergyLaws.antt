@@ -9,6 +9,7 @@ use native.Mathlib.Omega.{arith}
 use lib.Dec.{leb, eqb, leb·zero, leb·suc-suc, eqb·suc-zero}
 use lib.ListN.{length, length-map}
 use Rattle.common.specs.Lists.{range, sum}
+use Rattle.checks.specs.Limits.{maxWake}
 use Rattle.method.specs.Intervals.{Interval, join, runs, intervals, size}
 use Rattle.method.specs.FrontRunLaws.{stretch, frontRun, runs-front}
 use Rattle.energy.specs.Energy.{state, onIn, onSlots, startAt, startsFrom, startsOf, starts, on, energy}
@@ -127,14 +128,14 @@ unfolding starts
 starts-le m q counts =
     sum-range-le (λ k. startsOf (length counts) q (intervals counts k)) (suc (length counts) / 2) (λ k. omega (arith, startsOf-le (length counts) q counts k)) 1 m
 
--- The starts and the energy of every sheet's day: at most 8 blowers, 96 slots and a wake cost of 200.
-module _ (m q : ℕ) (counts : List ℕ) (few : m ≤ 8) (wake-most : q ≤ 200) (day : length counts ≤ 96) where
+-- The starts and the energy of every sheet's day: at most 8 blowers, 96 slots and the greatest wake cost.
+module _ (m q : ℕ) (counts : List ℕ) (few : m ≤ 8) (wake-most : q ≤ maxWake) (day : length counts ≤ 96) where
   pub starts-most : starts m q counts ≤ 384
   starts-most = omega (arith, starts-le m q counts, mul-le-mul few (half (length counts) day))
     where
       half : (n : ℕ) → n ≤ 96 → suc n / 2 ≤ 48
       half n h = omega arith
 
-  pub energy-most : energy m q counts ≤ 768 + 200 * 384
+  pub energy-most : energy m q counts ≤ 768 + maxWake * 384
   unfolding energy
   energy-most = omega (arith, on-le m q counts, mul-le-mul few day, mul-le-mul wake-most starts-most)

@@ -4,6 +4,7 @@ use mathlib.Core.Path.{_≡_}
 use mathlib.Core.List.{List, map}
 use Prim.Native.Nat.{ℕ, _≤_}
 use lib.ListN.{length, getD}
+use Rattle.checks.specs.Limits.{maxWake}
 use Rattle.method.specs.Intervals.{Interval}
 use Rattle.method.specs.FrontRunLaws.{stretchesFrom}
 use Rattle.energy.specs.Energy.{listed, onSlots, startsOf, starts, energy}
@@ -33,4 +34,4 @@ pub record Day (counts : List ℕ) (slots : ℕ) : Type 0 where
 pub record CanCharge (counts : List ℕ) (slots blowers wake : ℕ) : Type 0 where
   pub counted : Day counts slots
   pub few : blowers ≤ 8
-  pub wake-most : wake ≤ 200
+  pub wake-most : wake ≤ maxWake

@@ -11,6 +11,7 @@ use lib.ListN.{length, take, length-take}
 use lib.Seq.{length-take-le}
 use borrow.Author.Tests.{eq-eqb, ne-eqb, le-leb, lt-leb}
 use Rattle.common.specs.Lists.{range, sum}
+use Rattle.checks.specs.Limits.{maxWake}
 use Rattle.method.specs.Intervals.{Interval, intervals, size, busyIn}
 use Rattle.method.specs.FrontRunLaws.{stretch, stretchesFrom, stretchesFrom-begin, stretchesFrom-end, EndsAt}
 use Rattle.energy.specs.Energy.{atEnd, state, listed, onIn, onSlots, startAt, startsFrom, startsOf, starts, on, energy}
@@ -219,7 +220,7 @@ module _ (m q : ℕ) (counts : List ℕ) (slots : ℕ) (day : Day counts slots) 
 pub record Small (m q used started : ℕ) : Type 0 where
   pub on : used ≤ 768
   pub starts : started ≤ 768
-  pub charge : q * started ≤ 153600
+  pub charge : q * started ≤ maxWake * 768
 
 pub charge-le : {m q : ℕ} {counts : List ℕ} {slots done used started : ℕ} → CanCharge counts slots m q → UsedBy m q counts slots done used started → Small m q used started
 charge-le {started = started} h u =

@@ -39,10 +39,10 @@ pub fn plan(
     words_4: u32,
 ) {
     // no case lends longer buffers
-    let mut listing_1 = [0u8; 32343];
-    let mut listing_2 = [0u8; 32343];
-    let mut listing_3 = [0u8; 32343];
-    let mut listing_4 = [0u8; 32343];
+    let mut listing_1 = [0u8; 38495];
+    let mut listing_2 = [0u8; 38495];
+    let mut listing_3 = [0u8; 38495];
+    let mut listing_4 = [0u8; 38495];
     let mut placing_1 = [0u64; 136];
     let mut placing_2 = [0u64; 136];
     let mut placing_3 = [0u64; 136];

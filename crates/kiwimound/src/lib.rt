@@ -9,3 +9,4 @@ mod hall_plans;
 mod placings;
 mod plans;
 mod sheets;
+mod version;

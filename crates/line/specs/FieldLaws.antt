@@ -13,7 +13,7 @@ use lib.Seq.{take-suc, take-all, length-take-le}
 use borrow.Author.Tests.{eqb-true, ne-eqb}
 use Rattle.line.specs.declared.Field.{Field}
 use Rattle.line.specs.declared.Field.the-variants.{Value, Faulty}
-use Rattle.line.specs.Layout.{width, blank}
+use Rattle.line.specs.Layout.{width, blank, newline}
 use Rattle.line.specs.Field.{digits, zeroAlone, decimal, parse, isDigit, digit, leading, columns, writeField}
 use Rattle.line.specs.ColumnLaws.{isDigit-digit, digit-isDigit, faulty≢value, extend, blanks, parse-snoc, blanks-faulty, blanks-replicate, replicate-blanks, leading-zero, leading-columns}
 
@@ -169,6 +169,39 @@ length-leading (suc n) v = simp (length-append, length-leading n (v / 10), add-o
 pub length-columns : (n v : ℕ) → length (columns n v) ≡ suc n
 unfolding columns
 length-columns n v = simp (length-append, length-leading n (v / 10), add-one)
+
+-- Byte 10 -------------------------------------------------------------------------
+
+-- no digit and no blank: what has byte 10 holds no number
+digits-newline : (v : ℕ) (bs : List ℕ) (i : ℕ) → i < length bs → getD bs i 0 ≡ newline → digits v bs ≡ Faulty
+unfolding digits isDigit
+digits-newline v [] i l e = absurd (omega arith)
+digits-newline v (b ∷ bs) zero l e = rw e refl
+digits-newline v (b ∷ bs) (suc i) l e = go (isDigit b) (digits-newline (10 * v + (b - 48)) bs i (omega arith) e)
+  where
+    go : (d : Bool) → digits (10 * v + (b - 48)) bs ≡ Faulty → cond d (digits (10 * v + (b - 48)) bs) Faulty ≡ Faulty
+    go true h = h
+    go false h = refl
+
+decimal-newline : (b : ℕ) (bs : List ℕ) (i : ℕ) → i < length bs → getD bs i 0 ≡ newline → decimal b bs ≡ Faulty
+unfolding decimal zeroAlone
+decimal-newline b [] i l e = absurd (omega arith)
+decimal-newline b (c ∷ bs) i l e = go (eqb b 48) (isDigit b) (digits-newline (b - 48) (c ∷ bs) i l e)
+  where
+    go : (z d : Bool) → digits (b - 48) (c ∷ bs) ≡ Faulty → cond z Faulty (cond d (digits (b - 48) (c ∷ bs)) Faulty) ≡ Faulty
+    go true d h = refl
+    go false true h = h
+    go false false h = refl
+
+pub parse-newline : (bs : List ℕ) (i : ℕ) → i < length bs → getD bs i 0 ≡ newline → parse bs ≡ Faulty
+unfolding parse decimal isDigit
+parse-newline [] i l e = absurd (omega arith)
+parse-newline (b ∷ bs) zero l e = rw e refl
+parse-newline (b ∷ bs) (suc i) l e = go (eqb b blank) (parse-newline bs i (omega arith) e) (decimal-newline b bs i (omega arith) e)
+  where
+    go : (t : Bool) → parse bs ≡ Faulty → decimal b bs ≡ Faulty → cond t (parse bs) (decimal b bs) ≡ Faulty
+    go true h k = h
+    go false h k = k
 
 -- At the width of a line's field ---------------------------------------------------
 

@@ -1,9 +1,10 @@
--- The layout of a line, each number named once; src/layout.rt names the same for the code. Definitions only.
+-- The layout of a line by request 110, each number named once; src/layout.rt names the same for the code. Definitions
+-- only.
 use Prim.Native.Nat.{ℕ}
 
 -- columns of a field
 abbrev pub width : ℕ
-width = 5
+width = 6
 
 -- fields of a line
 abbrev pub fields : ℕ
@@ -11,7 +12,7 @@ fields = 4
 
 -- bytes of a line: its fields and the closing byte
 abbrev pub lineBytes : ℕ
-lineBytes = 21
+lineBytes = 25
 
 -- the bytes that are not digits: a blank, and the byte that closes a line
 abbrev pub blank : ℕ

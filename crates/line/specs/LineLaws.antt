@@ -1,11 +1,11 @@
 -- A line that is written has its four numbers in its fields, and a line without a fault is the one that is written for its numbers. Assumes nothing.
-use mathlib.Core.Path.{_≡_, refl, ap₂, _∙_}
-use mathlib.Core.Bool.{false, true≢false}
+use mathlib.Core.Path.{_≡_, refl, sym, ap, ap₂, _∙_}
+use mathlib.Core.Bool.{Bool, true, false, true≢false}
 use mathlib.Core.List.{List, [], _∷_, _++_}
-use Prim.Native.Nat.{ℕ, zero, suc, _+_, _*_, _^_, _≤_, _<_}
+use Prim.Native.Nat.{ℕ, zero, suc, _+_, _*_, _/_, _%_, _^_, _≤_, _<_}
 use native.Mathlib.Omega.{arith}
 use lib.ListN.{length, getD, drop, length-append, drop-of-length-le}
-use lib.Seq.{drop-cons}
+use lib.Seq.{drop-cons, getD-take, getD-drop}
 use borrow.Author.Tests.{eqb-true, eq-eqb, not-false}
 use Rattle.common.specs.Tests.{or-false}
 use Rattle.common.specs.FromFirst.{from-first}
@@ -15,7 +15,7 @@ use Rattle.line.specs.declared.Field.the-variants.{Value, Faulty}
 use Rattle.line.specs.Layout.{width, fields, lineBytes, newline}
 use Rattle.line.specs.Field.{parse, numberOf, isFaulty, writeField}
 use Rattle.line.specs.Line.{fieldAt, valueAt, faultyFrom, faultyLine, writeLine}
-use Rattle.line.specs.FieldLaws.{parse-writeField, writeField-parse, length-writeField}
+use Rattle.line.specs.FieldLaws.{parse-newline, parse-writeField, writeField-parse, length-writeField}
 
 pub length-writeLine : (a b c d : ℕ) → length (writeLine a b c d) ≡ lineBytes
 unfolding writeLine
@@ -79,6 +79,31 @@ value-numberOf : (x : Field) → isFaulty x ≡ false → x ≡ Value (numberOf 
 unfolding isFaulty numberOf
 value-numberOf (Value v) e = refl
 value-numberOf Faulty e = absurd (true≢false e)
+
+-- A line with byte 10 in one of its fields is faulty.
+pub faulty-early : (l : List ℕ) (i : ℕ) → i < width * fields → width * fields ≤ length l → getD l i 0 ≡ newline → faultyLine l ≡ true
+unfolding faultyLine fieldAt isFaulty
+faulty-early l i h long e = go (faultyFrom l 0 fields) refl
+  where
+    f : ℕ
+    f = i / width
+
+    byte : getD (fieldAt l f) (i % width) 0 ≡ newline
+    byte =
+        getD-take width (drop (width * f) l) (i % width) 0 (omega arith)
+        ∙ getD-drop (width * f) l (i % width) 0
+        ∙ ap (λ k. getD l k 0) (let s : width * f + i % width ≡ i = omega arith in s)
+        ∙ e
+
+    whole : length (fieldAt l f) ≡ width
+    whole = length-chunk width l f (omega arith)
+
+    field : parse (fieldAt l f) ≡ Faulty
+    field = parse-newline (fieldAt l f) (i % width) (omega (arith, whole)) byte
+
+    go : (t : Bool) → faultyFrom l 0 fields ≡ t → t ≡ true
+    go true q = refl
+    go false q = absurd (true≢false (ap isFaulty (sym field) ∙ formed-faultyFrom l 0 fields q .field f (omega arith) (omega arith)))
 
 isFaulty-value : (x : Field) (v : ℕ) → x ≡ Value v → isFaulty x ≡ false
 unfolding isFaulty

@@ -45,6 +45,15 @@ put-first at v old h = ap (λ i. set old i (column v)) start ∙ put-column at 1
     start : at ≡ at + (1 - 1)
     start = omega arith
 
+-- no digit is left
+pub put-blanks : (at : ℕ) (old : List ℕ) → at + (width - 2) ≤ length old
+    → set (set (set (set old at blank) (at + 1) blank) (at + 2) blank) (at + 3) blank ≡ putAt at (leading (width - 2) 0) old
+unfolding column
+put-blanks at old h =
+    put-column at 4 0 old _ (omega arith) (omega arith)
+    (put-column at 3 0 old _ (omega arith) (omega arith)
+    (put-column at 2 0 old _ (omega arith) (omega arith) (put-first at 0 old (omega arith))))
+
 pub put-last : (at v : ℕ) (old mid : List ℕ) → at + width ≤ length old → mid ≡ putAt at (leading (width - 1) (v / 10)) old
     → set mid (at + (width - 1)) (digit (v % 10)) ≡ putAt at (writeField v) old
 unfolding writeField columns

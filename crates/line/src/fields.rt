@@ -1,4 +1,4 @@
-// A field: five columns that hold a whole number in decimal, right-justified, with blanks on its left.
+// A field: six columns that hold a whole number in decimal, right-justified, with blanks on its left.
 use crate::Field;
 use crate::layout::BLANK;
 use crate::layout::WIDTH;
@@ -8,7 +8,7 @@ ghost use lib.ListN.{length, take, drop};
 ghost use Rattle.common.specs.Lists.{part};
 ghost use Rattle.common.specs.Buffers.{putAt};
 ghost use Rattle.line.specs.Layout.{width};
-ghost use Rattle.line.specs.Field.{digits, parse, numberOf, isFaulty, writeField};
+ghost use Rattle.line.specs.Field.{digits, parse, numberOf, isFaulty, leading, writeField};
 ghost use Rattle.line.specs.Parts.{Skipped, CanAdd, column};
 
 // The first place that holds no blank, or the end.
@@ -106,22 +106,39 @@ fn column_byte(rest: u32) -> u8
     }
 }
 
+// Writes the columns before the last two, where `rest` is the number without its last two digits. Most numbers of a
+// listing have no other digit: these columns are then blank, and nothing is divided.
+fn put_leading(out: &mut [u8], at: usize, rest: u32)
+    requires { ⌜ at + (width - 2) ≤ length (now out) ⌝ }
+    ensures { λ _. ⌜ now (out .exit) ≡ putAt at (leading (width - 2) rest) (now (out .entry)) ⌝ }
+{
+    if rest == 0 {
+        out[at] = BLANK;
+        out[at + 1] = BLANK;
+        out[at + 2] = BLANK;
+        out[at + 3] = BLANK;
+    } else {
+        let third = rest / 10;
+        let second = third / 10;
+        let first = second / 10;
+        let a = column_byte(first);
+        let b = column_byte(second);
+        let c = column_byte(third);
+        let d = column_byte(rest);
+        out[at] = a;
+        out[at + 1] = b;
+        out[at + 2] = c;
+        out[at + 3] = d;
+    }
+}
+
 // Writes the field of v at a place of out: each column has what is left of v without the columns after it.
 pub fn put_field(out: &mut [u8], at: usize, v: u32)
     requires { ⌜ at + width ≤ length (now out) ⌝ }
     ensures { λ _. ⌜ now (out .exit) ≡ putAt at (writeField v) (now (out .entry)) ⌝ }
 {
-    let fourth = v / 10;
-    let third = fourth / 10;
-    let second = third / 10;
-    let first = second / 10;
-    let a = column_byte(first);
-    let b = column_byte(second);
-    let c = column_byte(third);
-    let d = column_byte(fourth);
-    out[at] = a;
-    out[at + 1] = b;
-    out[at + 2] = c;
-    out[at + 3] = d;
-    out[at + 4] = 48 + (v % 10) as u8;
+    put_leading(out, at, v / 100);
+    let e = column_byte(v / 10);
+    out[at + 4] = e;
+    out[at + 5] = 48 + (v % 10) as u8;
 }

@@ -1,4 +1,4 @@
-// One line of a sheet or of a listing: four fields of five columns and byte 10.
+// One line of a sheet or of a listing: four fields of six columns and byte 10.
 //
 // A field holds a whole number in decimal, right-justified, with blanks on its left. What is written is read back to
 // the same number, and a field or a line that is read without a fault is the one that is written for its numbers

@@ -30,7 +30,7 @@ pub fn answer(lengths: &[u8], sheet: &[u8]) {
     let mut numbers = [0u32; 2];
     cases::numbers(lengths, &mut numbers);
     // no case lends longer buffers
-    let mut bytes = [0u8; 32782];
+    let mut bytes = [0u8; 39000];
     let mut words = [0u64; 6144];
     lend(sheet, numbers[0], numbers[1], &mut bytes, &mut words);
 }

@@ -21,6 +21,6 @@ pub fn answer(lengths: &[u8], sheet: &[u8]) {
     let mut numbers = [0u32; 1];
     cases::numbers(lengths, &mut numbers);
     // no case lends a longer buffer
-    let mut room = [0u8; 32782];
+    let mut room = [0u8; 39000];
     lend(sheet, numbers[0], &mut room);
 }

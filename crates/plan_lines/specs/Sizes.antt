@@ -1,5 +1,5 @@
--- The sizes of the buffers that the calls which plan are lent, as document 01 and requests 103, 105 and 106 give
--- them; src/sizes.rt names the same for the code. Assumes nothing.
+-- The sizes of the buffers that the calls which plan are lent, as document 01 and requests 103, 105, 106 and 110
+-- give them; src/sizes.rt names the same for the code. Assumes nothing.
 use Prim.Native.Nat.{ℕ, _+_, _*_}
 use Rattle.line.specs.Layout.{lineBytes}
 use Rattle.checks.specs.Limits.{maxSlots, maxBlowers}
@@ -8,7 +8,7 @@ use Rattle.checks.specs.Limits.{maxSlots, maxBlowers}
 abbrev pub wordBytes : ℕ
 wordBytes = 5
 
--- the least length of a plan buffer, 32,303: room for the word, the head line, a stretch line and a feed line for each
+-- the least length of a plan buffer, 38,455: room for the word, the head line, a stretch line and a feed line for each
 -- slot of each blower, and the bill's line
 abbrev pub planBytes : ℕ
 planBytes = wordBytes + lineBytes * (2 + 2 * (maxSlots * maxBlowers))

@@ -5,7 +5,7 @@ use line::layout::LINE;
 // bytes of the word that opens a listing, with its byte 10
 pub const WORD: usize = 5;
 
-// the least length of a plan buffer, 32,303: room for the word, the head line, a stretch line and a feed line for each
+// the least length of a plan buffer, 38,455: room for the word, the head line, a stretch line and a feed line for each
 // slot of each blower, and the bill's line
 pub const PLAN_BYTES: usize = WORD + LINE * (2 + 2 * (96 * 8));
 

@@ -106,13 +106,13 @@ module _ (s : Sheet) (v : ValuesInRange 0 s (length (s .jobs)) true) (p : Schedu
 
   -- A plan ----------------------------------------------------------------------------
 
-  day-le : length (load (s .slots) p) ≤ maxSlots
+  pub day-le : length (load (s .slots) p) ≤ maxSlots
   day-le = omega (arith, length-counts s p can, v .head .slots .le)
 
-  pub energy-fits : energy (s .blowers) (s .wake) (load (s .slots) p) < 10 ^ width
+  energy-fits : energy (s .blowers) (s .wake) (load (s .slots) p) < 10 ^ width
   energy-fits = omega (arith, energy-most (s .blowers) (s .wake) (load (s .slots) p) (v .head .blowers .le) (v .head .wake) day-le)
 
-  pub starts-fit : starts (s .blowers) (s .wake) (load (s .slots) p) < 10 ^ width
+  starts-fit : starts (s .blowers) (s .wake) (load (s .slots) p) < 10 ^ width
   starts-fit = omega (arith, starts-most (s .blowers) (s .wake) (load (s .slots) p) (v .head .blowers .le) (v .head .wake) day-le)
 
   bill-fits : FitsLine (billLine (charge (s .blowers) (s .wake) (load (s .slots) p)))

@@ -1,37 +1,41 @@
 -- The planning layer's theorems, for every problem in range: its listing is read back to its lines and fits the plan
--- buffer, energy and starts fit their fields; a well-formed sheet planned alone is such a problem. Here are the
+-- buffer, and every number on them fits its field; a well-formed sheet planned alone is such a problem. Here are the
 -- statements; the law files have the proofs. What the calls answer altogether is in the crate `demands`. Assumes
 -- nothing.
 use mathlib.Core.Path.{_≡_, refl, sym, ap, ap₂, _∙_}
 use mathlib.Core.Bool.{Bool, true, false}
 use mathlib.Core.List.{List, [], _++_}
-use Prim.Native.Nat.{ℕ, _^_, _≤_, _<_}
+use Prim.Native.Nat.{ℕ, _+_, _*_, _≤_, _<_}
 use lib.ListN.{length, take, drop}
 use lib.Seq.{drop-at, take-at}
-use Rattle.line.specs.Layout.{width}
+use Rattle.checks.specs.Limits.{maxWake}
 use Rattle.checks.specs.Sheet.{lineAt, sheetOf}
 use Rattle.line.specs.Line.{faultyLine}
 use Rattle.checks.specs.Checks.{faults}
 use Rattle.sheet.specs.Calls.{accepted}
 use Rattle.checks.specs.WellFormedLaws.{wellFormed-faults}
 use Rattle.energy.specs.Energy.{starts, energy}
-use Rattle.plan_lines.specs.Sizes.{wordBytes, planBytes, placingWords}
+use Rattle.energy.specs.EnergyLaws.{starts-most, energy-most}
+use Rattle.plan_lines.specs.Sizes.{wordBytes, planBytes, placingWords, causesBytes}
 use Rattle.plan_lines.specs.Lines.{Line, planLines}
 use Rattle.plan_lines.specs.Text.{writeLines, planWord, heldWord, planText, heldText}
 use Rattle.planning.specs.Problem.{Problem, alone, ProblemInRange, canBePlanned, feedingsOf, countsOf, planFor, listingOf}
 use Rattle.planning.specs.ReadListing.{linesOf}
 use Rattle.planning.specs.ReadLaws.{FitLines, linesOf-written, faultyLine-written}
-use Rattle.planning.specs.FitLaws.{energy-fits, starts-fit, fit-planLines}
+use Rattle.planning.specs.FitLaws.{day-le, fit-planLines}
 use Rattle.planning.specs.ProblemLaws.{heldLinesOf, listing-plan, listing-held, feedings-sound, fit-held, length-listing}
 use Rattle.planning.specs.AloneLaws.{alone-in-range}
 
--- Sizes, as requests 103 and 106 have them --------------------------------------------------------------
+-- Sizes, as requests 105, 106 and 110 have them --------------------------------------------------------------
 
-pub plan-buffer-size : planBytes ≡ 32303
+pub plan-buffer-size : planBytes ≡ 38455
 plan-buffer-size = refl
 
 pub placing-buffer-size : placingWords ≡ 96
 placing-buffer-size = refl
+
+pub causes-buffer-size : causesBytes ≡ 65536
+causes-buffer-size = refl
 
 -- Listings ----------------------------------------------------------------------------------
 
@@ -70,18 +74,31 @@ module _ (p : Problem) (g : ProblemInRange p) where
           (fit-planLines (p .sheet) (g .values) (feedingsOf p) (feedings-sound p g e)))
       go false e = rw (e, linesListed) (reads-as (listingOf p) heldWord (heldLinesOf p) (listing-held p e) refl (fit-held p g))
 
-  -- It is at most 32,303 bytes long.
+  -- It is at most 38,455 bytes long.
   pub listing-fits : length (listingOf p) ≤ planBytes
   listing-fits = length-listing p g
 
-  -- Energy and starts fit their fields.
-  pub energy-and-starts-fit : canBePlanned p ≡ true
-      → (energy (p .sheet .blowers) (p .sheet .wake) (countsOf p) < 10 ^ width) × (starts (p .sheet .blowers) (p .sheet .wake) (countsOf p) < 10 ^ width)
+  -- Every number on its lines fits its field: energy, starts, slots, blowers, tanks, parts and the bill of a plan,
+  -- slots and counts of a problem that is held.
+  pub numbers-fit : FitLines (linesListed p)
+  unfolding linesListed
+  numbers-fit = go (canBePlanned p) refl
+    where
+      go : (c : Bool) → canBePlanned p ≡ c → FitLines (linesListed p)
+      go true e = rw (e, linesListed) (fit-planLines (p .sheet) (g .values) (feedingsOf p) (feedings-sound p g e))
+      go false e = rw (e, linesListed) (fit-held p g)
+
+  -- Bounds of the energy and the starts of a plan: 768,768 and 384.
+  pub energy-and-starts-most : canBePlanned p ≡ true
+      → (energy (p .sheet .blowers) (p .sheet .wake) (countsOf p) ≤ 768 + maxWake * 384) × (starts (p .sheet .blowers) (p .sheet .wake) (countsOf p) ≤ 384)
   unfolding countsOf
-  energy-and-starts-fit e =
+  energy-and-starts-most e =
       let s = p .sheet in
-      let q = feedings-sound p g e in
-      (energy-fits s (g .values) (feedingsOf p) q, starts-fit s (g .values) (feedingsOf p) q)
+      let v = g .values in
+      let d = day-le s v (feedingsOf p) (feedings-sound p g e) in (
+        energy-most (s .blowers) (s .wake) _ (v .head .blowers .le) (v .head .wake) d,
+        starts-most (s .blowers) (s .wake) _ (v .head .blowers .le) (v .head .wake) d,
+      )
 
 -- of an accepted sheet
 pub accepted-in-range : (b : List ℕ) → faults b ≡ [] → ProblemInRange (alone (sheetOf b))

@@ -2,7 +2,7 @@
 use mathlib.Core.Bool.{Bool, _||_, not}
 use mathlib.Core.List.{List, [], _∷_, _++_, map}
 use Prim.Native.Nat.{ℕ, zero, suc, _+_, _-_, _*_, _/_, _%_, _^_}
-use lib.Dec.{eqb}
+use lib.Dec.{ltb, eqb}
 use lib.ListN.{length, getD, take}
 use Rattle.common.specs.Lists.{range}
 use Rattle.line.specs.Layout.{width, newline, lineBytes}
@@ -49,7 +49,7 @@ practiceSheet seed =
       jobs = map (practiceJob seed) (range 1 (draw seed 3 % 65));
     }
 
--- bytes of the longest one, 1,365: its head line and a line for each of 64 rations
+-- bytes of the longest one, 1,625: its head line and a line for each of 64 rations
 abbrev pub practiceBytes : ℕ
 practiceBytes = lineBytes * (1 + 64)
 
@@ -65,11 +65,16 @@ practiceRefusal seed size = writeRefusalFor [] (practiceSheet seed) size
 abbrev pub seedInput : ℕ → List ℕ
 seedInput seed = writeField seed ++ (newline ∷ [])
 
--- any input but one field of five columns in the stated form, closed by byte 10
-unfoldable pub faultySeed : List ℕ → Bool
-faultySeed b =
-    not (eqb (length b) (suc width)) || (isFaulty (parse (take width b)) || not (eqb (getD b width 0) newline))
-
--- the seed in that field
+-- the number in that field
 unfoldable pub seedIn : List ℕ → ℕ
 seedIn b = numberOf (parse (take width b))
+
+-- the greatest seed that an input may have
+abbrev pub maxSeed : ℕ
+maxSeed = 99999
+
+-- any input but one field in the stated form, closed by byte 10, with a number from 0 to 99,999
+unfoldable pub faultySeed : List ℕ → Bool
+faultySeed b =
+    not (eqb (length b) (suc width))
+    || (isFaulty (parse (take width b)) || (ltb maxSeed (seedIn b) || not (eqb (getD b width 0) newline)))

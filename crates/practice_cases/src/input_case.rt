@@ -10,7 +10,7 @@ pub fn answer(input: &[u8]) {
 // payload.
 pub fn answer_long(size: u32) {
     let mut input = [32u8; 70000];
-    input[4] = b'1';
-    input[5] = 10;
+    input[5] = b'1';
+    input[6] = 10;
     answer(cases::first_part(&input, size as usize));
 }

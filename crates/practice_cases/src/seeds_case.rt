@@ -4,7 +4,7 @@
 use practice::sizes::PRACTICE_BYTES;
 
 fn plan(sheet: &[u8]) {
-    let mut room = [0u8; 32303];
+    let mut room = [0u8; 38455];
     let mut placing = [0u64; 96];
     cases::fill(&mut room);
     cases::fill_words(&mut placing);

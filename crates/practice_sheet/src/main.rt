@@ -1,4 +1,4 @@
-// Writes the practice sheet of the seed on standard input to standard output: one field of five columns, closed by byte
+// Writes the practice sheet of the seed on standard input to standard output: one field of six columns, closed by byte
 // 10. Any other input is refused as the planner refuses a sheet.
 fn main() {
     // longer than the field, so that a longer input is refused by its length

@@ -1,9 +1,9 @@
 -- The programs' theorems. For a well-formed sheet the planner writes what a planning call writes, its output fits the
--- plan buffer, an input longer than any sheet is refused, and a refusal's text is read back. The practice sheets'
--- program takes every seed that a field can hold, and nothing else. Assumes nothing.
+-- plan buffer, an input longer than any sheet is refused, every refusal fits its fields, and its text is read back. The
+-- practice sheets' program takes the seeds from 0 to 99,999, and nothing else. Assumes nothing.
 use mathlib.Core.Path.{_≡_, refl, sym, subst}
 use mathlib.Core.Logic.{_⊎_, inl, inr}
-use mathlib.Core.Bool.{Bool, true, false, _||_, cond}
+use mathlib.Core.Bool.{Bool, true, false, _||_, not, cond}
 use mathlib.Core.List.{List, [], _∷_, List·Memᴰ, List·Memᴰ·cases-cons, List·Memᴰ·not-nil}
 use Prim.Native.Nat.{ℕ, _^_, _≤_, _<_}
 use native.Mathlib.Omega.{arith}
@@ -13,9 +13,10 @@ use lib.Seq.{take-append-seam}
 use borrow.Author.Tests.{lt-ltb}
 use Rattle.line.specs.Layout.{width, lineBytes}
 use Rattle.checks.specs.Limits.{maxBytes}
-use Rattle.checks.specs.Refusals.{badForm}
+use Rattle.checks.specs.Refusals.{badForm, shortBuffer, noPlacing}
 use Rattle.checks.specs.Sheet.{sheetOf, writeSheet}
 use Rattle.checks.specs.Checks.{firstRefusal, outside, lengthFaults, faults}
+use Rattle.sheet.specs.NamedLineLaws.{names-fault, names-append, names-faults}
 use Rattle.common.specs.Buffers.{padded}
 use Rattle.plan_lines.specs.Sizes.{planBytes}
 use Rattle.plan_lines.specs.Lines.{line}
@@ -26,7 +27,7 @@ use Rattle.planning.specs.WrittenLaws.{number-planned, number-held, writes-plan
 use Rattle.planning.specs.ReadListing.{written}
 use Rattle.planning.specs.ReadLaws.{FitsLine, FitLines}
 use Rattle.planning.specs.Theorems.{ReadsAs, reads-as}
-use Rattle.practice.specs.Practice.{practiceSheet, seedInput, faultySeed, seedIn}
+use Rattle.practice.specs.Practice.{practiceSheet, seedInput, seedIn, maxSeed, faultySeed}
 use Rattle.practice.specs.SeedLaws.{seed-fine, seed-is, seed-there}
 use Rattle.program.specs.Program.{output, outputOf, seedOutput, madeSheetOf}
 use Rattle.program.specs.OutputLaws.{length-output}
@@ -58,8 +59,8 @@ program-front b = take-append-seam (output b) _
 pub program-length : (b : List ℕ) → length (output b) ≤ planBytes
 program-length b = length-output b
 
--- An input longer than any sheet is refused by its length, whatever it holds: the program needs to read no more than
--- one byte beyond the longest sheet.
+-- An input of more than 65,520 bytes is refused by its length, whatever it holds: the program needs to read no more
+-- than one byte beyond these.
 pub program-too-long : (b : List ℕ) → maxBytes < length b → output b ≡ refusalText 1 0
 unfolding output planRefusal faults lengthFaults outside firstRefusal writes
 program-too-long b l = rw (lt-ltb maxBytes (length b) l, or-true (ltb (length b) lineBytes))
@@ -67,6 +68,16 @@ program-too-long b l = rw (lt-ltb maxBytes (length b) l, or-true (ltb (length b)
     or-true : (x : Bool) → (x || true) ≡ true
     or-true true = refl
     or-true false = refl
+
+-- Number and line of every refusal fit their fields.
+pub refusal-fits : (b : List ℕ) (short : Bool) → (planRefusal b short .number < 10 ^ width) × (planRefusal b short .line < 10 ^ width)
+unfolding planRefusal
+refusal-fits b short =
+    let n =
+    names-append _ _ (names-faults b)
+    (names-append _ _ (names-fault shortBuffer 0 short (omega arith) (omega arith))
+    (names-fault noPlacing 0 (not (canBePlanned (alone (sheetOf b)))) (omega arith) (omega arith))) in
+    (omega (arith, n .number), omega (arith, n .line))
 
 -- A refusal's text is read back, as a listing is (`listing-read-back`).
 pub refusal-read-back : (number l : ℕ) → number < 10 ^ width → l < 10 ^ width → ReadsAs (refusalText number l) (line number l 0 0 ∷ [])
@@ -87,13 +98,13 @@ pub made-front : (b : List ℕ) → take (madeSheetOf b .length) (madeSheetOf b 
 unfolding madeSheetOf padded
 made-front b = take-append-seam (seedOutput b) _
 
--- It takes each seed that a field can hold, ..
-pub seed-taken : (seed : ℕ) → seed < 10 ^ width → seedOutput (seedInput seed) ≡ writeSheet (practiceSheet seed)
+-- It takes each seed from 0 to 99,999, ..
+pub seed-taken : (seed : ℕ) → seed ≤ maxSeed → seedOutput (seedInput seed) ≡ writeSheet (practiceSheet seed)
 unfolding seedOutput
 seed-taken seed h = rw (seed-fine seed h, seed-is seed h)
 
 -- .. and refuses any other input.
-pub seed-refused : (b : List ℕ) → ((seed : ℕ) → seed < 10 ^ width → b ≡ seedInput seed → ⊥) → seedOutput b ≡ refusalText badForm 1
+pub seed-refused : (b : List ℕ) → ((seed : ℕ) → seed ≤ maxSeed → b ≡ seedInput seed → ⊥) → seedOutput b ≡ refusalText badForm 1
 unfolding seedOutput
 seed-refused b none = go (faultySeed b) refl
   where

@@ -6,6 +6,7 @@ pub mod Theorems
 pub mod CallLaws
 pub mod OwnChecks
 pub mod OwnCheckLaws
+pub mod NamedLineLaws
 -- What the functions within the crate require and ensure, and the steps of their loops
 pub mod Parts
 pub mod LineSteps

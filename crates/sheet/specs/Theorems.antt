@@ -10,13 +10,14 @@ use Rattle.common.specs.Buffers.{over}
 use Rattle.common.specs.BufferLaws.{take-over}
 use Rattle.checks.specs.declared.Refusal.{Refusal}
 use Rattle.sheet.specs.declared.Reading.{Reading}
-use Rattle.checks.specs.Sheet.{Job, Sheet, sheetOf, writeSheet, sheetFrom}
-use Rattle.checks.specs.Checks.{valueFaults, faults}
+use Rattle.checks.specs.Sheet.{Job, Sheet, lineCount, sheetOf, writeSheet, sheetFrom}
+use Rattle.checks.specs.Checks.{firstRefusal, lengthFaults, valueFaults, faults}
 use Rattle.sheet.specs.Calls.{accepted, readingOf, writeRefusal, writtenOf, bufferAfter}
 use Rattle.checks.specs.SheetLaws.{sheetOf-writeSheet, length-writeSheet}
 use Rattle.checks.specs.RangeLaws.{inRange-valueFaults, fits-inRange, meals-follow}
-use Rattle.checks.specs.WellFormedLaws.{faults-wellFormed, wellFormed-faults, wellFormed-writeSheet, writeSheet-wellFormed, valueFaults-wellFormed}
+use Rattle.checks.specs.WellFormedLaws.{lengthFaults-whole, whole-lengthFaults, faults-wellFormed, wellFormed-faults, wellFormed-writeSheet, writeSheet-wellFormed, valueFaults-wellFormed}
 use Rattle.checks.specs.NumbersLaws.{length-jobsOf, numbersOf-jobsOf}
+use Rattle.sheet.specs.NamedLineLaws.{names-faults}
 use Rattle.sheet.specs.WriteSteps.{write-accepted}
 use Rattle.sheet.specs.CallLaws.{readingOf-accepted, faults-readingOf, rationsRead, rationsRead-accepted, sheetRead, sheetRead-accepted, refusalAgain, refusalAgain-accepted}
 
@@ -76,6 +77,18 @@ written-read-again slots blowers wake n numbers old e =
       sym m,
       rationsRead-accepted s ∙ numbersOf-jobsOf n numbers (sym (a .agrees)),
     )
+
+-- The longest sheet that passes check 1 has 65,500 bytes, 2,620 lines.
+pub longest-sheet : (b : List ℕ) → lengthFaults b ≡ [] → length b ≤ 65500
+longest-sheet b e = let w = whole-lengthFaults b e in omega (arith, w .0 .le, w .1)
+
+pub longest-sheet-passes : (b : List ℕ) → length b ≡ 65500 → lengthFaults b ≡ []
+unfolding lineCount
+longest-sheet-passes b e = lengthFaults-whole b (record { ge = omega arith; le = omega arith }) (omega arith)
+
+-- The number of a refusal of a sheet's bytes is at most 13, and the line that it names at most 2,620.
+pub refusal-most : (b : List ℕ) → (firstRefusal (faults b) .number ≤ 13) × (firstRefusal (faults b) .line ≤ 2620)
+refusal-most b = let n = names-faults b in (n .number, n .line)
 
 -- The meals of one tank follow each other: the window of a later one begins after the last slot of an earlier one, so that no slot is in two of them.
 pub meals-apart : (s : Sheet) → valueFaults s (length (s .jobs)) true ≡ [] → (i k : ℕ) → i < k → k < length (s .jobs)

@@ -1,6 +1,9 @@
-// Answers a stream of cases on standard input by the calls of the crate `sheet`, for comparison with the answers of a second implementation.
+// Answers a stream of cases on standard input by the calls of the crates `sheet` and `lookup`, for comparison with the
+// answers of a second implementation.
 //
-// Operation R reads a sheet and writes it back, F looks up the tank that is the case's number, W writes a sheet into a buffer as long as that number.
+// Operation R reads a sheet and writes it back. F looks up a tank: the payload has two parts, the first as long as the
+// case's number says; it holds the tank, and the second part is a sheet. W writes a sheet into a buffer as long as the
+// case's number.
 mod find_case;
 mod read_case;
 mod write_case;
@@ -11,7 +14,11 @@ fn answer(operation: u8, number: u32, payload: &[u8]) {
         read_case::answer(payload);
     }
     if operation == b'F' {
-        find_case::answer(payload, number);
+        let at = number as usize;
+        find_case::answer(
+            cases::first_part(payload, at),
+            cases::second_part(payload, at),
+        );
     }
     if operation == b'W' {
         write_case::answer(payload, number);

@@ -1,4 +1,5 @@
-// A sheet read: `R number line` and, where it is accepted, its numbers; then, on a line of its own, the sheet written back.
+// A sheet read: `R number line` and, where it is accepted, its numbers; then, on a line of its own, the sheet written
+// back.
 
 // 1 where both hold the same bytes, else 0.
 fn same(a: &[u8], b: &[u8]) -> u32 {
@@ -84,8 +85,8 @@ pub fn answer(sheet: &[u8]) {
         return;
     }
     let numbers = r.numbers;
-    // an accepted sheet has at most 65 lines of 21 bytes
-    let mut room = [0u8; 1365];
+    // an accepted sheet has at most 65 lines of 25 bytes
+    let mut room = [0u8; 1625];
     accepted(
         sheet,
         r.slots,

@@ -18,10 +18,11 @@ mod reading;
 mod seeds;
 mod values;
 
-use calls::{Buffers, Checked};
+use calls::{same, Buffers, Checked};
 use expected::Expected;
 use halls::{check_group, HallBuffers};
-use practice::{check_practice, seed_at, LAST_OF_PROGRAM};
+use practice::{check_practice, seed_at};
+use reference::practice::LAST_SEED;
 use sheets::mixture::{draws_at, kind_at, KINDS};
 use std::process::ExitCode;
 use std::time::Instant;
@@ -67,6 +68,7 @@ impl Tally {
 /// of a seed beside each, and plans a group of halls beside some.
 fn compare(count: usize, from: usize) -> Checked {
     let start = Instant::now();
+    same("version", library::version(), library::VERSION)?;
     let mut tally = Tally {
         kinds: [[0; 14]; KINDS.len()],
         full: [0; 14],
@@ -122,7 +124,7 @@ million if none is given, groups of halls, 200000, or pairs of sheets, 100000.";
 fn run(words: &[&str]) -> Option<Checked> {
     Some(match *words {
         [] => compare(1_000_000, 0),
-        ["practice"] => seeds::run(0..=LAST_OF_PROGRAM),
+        ["practice"] => seeds::run(0..=LAST_SEED),
         ["practice", first, last] => seeds::run(first.parse().ok()?..=last.parse().ok()?),
         ["halls"] => halls::run(200_000, 0),
         ["halls", count] => halls::run(count.parse().ok()?, 0),

@@ -2,23 +2,21 @@
 
 use crate::calls::{holds, same, sizes, Buffers, Checked};
 use reference::draws::Draws;
-use reference::practice::{practice, practice_sheet};
+use reference::practice::{practice, practice_sheet, LAST_SEED};
 use reference::sheet::{LINE, MOST_RATIONS};
 
-/// The longest practice sheet, 1,365 bytes.
+/// The longest practice sheet, 1,625 bytes.
 const LONGEST: usize = LINE * (MOST_RATIONS as usize + 1);
 
-/// The last seed that the program takes.
-pub const LAST_OF_PROGRAM: u32 = 99_999;
-
-/// The first and the last seeds of the program and of 32 bits, those beside them, and those
-/// after which s is 0 and 2^32 − 1.
-const EDGES: [u32; 9] = [
+/// The first and the last seeds of the program and of 32 bits, those beside them, the last that
+/// a field holds, and those after which s is 0 and 2^32 − 1.
+const EDGES: [u32; 10] = [
     0,
     1,
-    LAST_OF_PROGRAM - 1,
-    LAST_OF_PROGRAM,
-    LAST_OF_PROGRAM + 1,
+    LAST_SEED - 1,
+    LAST_SEED,
+    LAST_SEED + 1,
+    999_999,
     u32::MAX - 1,
     u32::MAX,
     634_785_765,
@@ -31,7 +29,7 @@ pub fn seed_at(place: usize, draws: &mut Draws) -> u32 {
     let any = draws.draw() << 16 | draws.draw();
     match EDGES.get(place) {
         Some(&edge) => edge,
-        None if place.is_multiple_of(2) => any % (LAST_OF_PROGRAM + 1),
+        None if place.is_multiple_of(2) => any % (LAST_SEED + 1),
         None => any,
     }
 }

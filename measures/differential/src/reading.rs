@@ -5,7 +5,7 @@ use crate::expected::Expected;
 use crate::values::Values;
 use library::Written;
 use reference::draws::Draws;
-use reference::sheet::{find, write, LINE};
+use reference::sheet::{find, write, LINE, MOST_TANK};
 
 pub fn check_read(e: &Expected) -> Checked {
     let answer = library::read(&e.bytes);
@@ -30,13 +30,15 @@ pub fn check_read(e: &Expected) -> Checked {
 }
 
 pub fn check_find(e: &Expected, draws: &mut Draws) -> Checked {
-    let mut tanks = vec![0, draws.below(1001), 0x1_0000 + draws.below(1000), u32::MAX];
+    let mut tanks = vec![0, draws.below(1001), draws.below(MOST_TANK + 2), u32::MAX];
     if let Ok(sheet) = &e.sheet {
         let rations = &sheet.rations;
         let ends = rations.first().into_iter().chain(rations.last());
         tanks.extend(ends.map(|ration| ration.tank));
         if !rations.is_empty() {
-            tanks.push(rations[draws.index(rations.len())].tank);
+            let tank = rations[draws.index(rations.len())].tank;
+            // The same last bits, or the same last digits, as one that is there.
+            tanks.extend([tank, tank + 0x1_0000, tank + 100_000, tank + 1_000_000]);
         }
     }
     for tank in tanks {

@@ -3,6 +3,7 @@
 use crate::expected::Expected;
 use library::{Ration, Records};
 use reference::draws::Draws;
+use reference::sheet::{MOST_TANK, MOST_WAKE};
 
 pub struct Values {
     /// The head line: slots, blowers, wake cost, rations.
@@ -21,7 +22,26 @@ const BEYOND: Ration = Ration {
 
 /// A number at a limit or beyond, or a likely one.
 fn odd(draws: &mut Draws) -> u32 {
-    const ODD: [u32; 12] = [0, 1, 8, 9, 64, 65, 96, 97, 200, 999, 1000, u32::MAX];
+    const ODD: [u32; 18] = [
+        0,
+        1,
+        8,
+        9,
+        64,
+        65,
+        96,
+        97,
+        200,
+        999,
+        1_000,
+        MOST_WAKE,
+        MOST_WAKE + 1,
+        99_999,
+        100_000,
+        MOST_TANK,
+        MOST_TANK + 1,
+        u32::MAX,
+    ];
     match draws.below(3) {
         0 => ODD[draws.index(ODD.len())],
         1 => draws.below(100),
@@ -41,7 +61,8 @@ impl Values {
         }
         let n = draws.below(4);
         let flat = (0..4 * n).map(|_| odd(draws)).collect();
-        let head = [1 + draws.below(97), 1 + draws.below(9), draws.below(202), n];
+        let wake = draws.below(MOST_WAKE + 2);
+        let head = [1 + draws.below(97), 1 + draws.below(9), wake, n];
         Values { head, flat }
     }
 

@@ -77,6 +77,7 @@ pub struct Part {
 }
 
 extern "C" {
+    pub fn kiwimound_version_2() -> u32;
     pub fn kiwimound_plan(b: *const u8, n: usize, listing: *mut u8, size: usize) -> Planned;
     pub fn kiwimound_plan_placing(
         b: *const u8,

@@ -9,6 +9,16 @@ pub use foreign::{
 };
 pub use records::{Ration, Records};
 
+/// The version that these declarations are for. It is in the name of a call, so that a library
+/// of another version is not linked.
+pub const VERSION: u32 = 2;
+
+/// The library's own version.
+pub fn version() -> u32 {
+    // SAFETY: it is lent nothing.
+    unsafe { foreign::kiwimound_version_2() }
+}
+
 /// Plans a sheet, with a plan buffer lent.
 pub fn plan(sheet: &[u8], listing: &mut [u8]) -> Planned {
     let (out, size) = (listing.as_mut_ptr(), listing.len());

@@ -11,6 +11,7 @@ pub use listing::{plan, plan_both, PLACING_WORDS, PLAN_BYTES};
 pub use loads::{bounds, shortfall, shortfall_by_slot};
 
 pub const SLOTS: usize = 96;
+pub const BLOWERS: usize = 8;
 pub const RATIONS: usize = 64;
 
 /// One word for each slot, bit j for ration j.

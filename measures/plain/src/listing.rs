@@ -1,12 +1,12 @@
 //! States, starts, energy and the bill, the bytes of the listings, and the planning calls.
 
 use crate::method::{plan_day, Day, Held};
-use crate::sheet::{read, Sheet, LINE};
-use crate::{Planned, RATIONS, SLOTS};
+use crate::sheet::{read, Sheet, FIELD, LINE};
+use crate::{Planned, BLOWERS, RATIONS, SLOTS};
 
-pub const PLAN_BYTES: usize = 32_303;
-pub const PLACING_WORDS: usize = SLOTS;
 const WORD: usize = 5;
+pub const PLAN_BYTES: usize = WORD + LINE * (2 + 2 * BLOWERS * SLOTS);
+pub const PLACING_WORDS: usize = SLOTS;
 
 /// Tenths of a cent per energy unit, for each hour of the day.
 const RATES: [u32; 24] = [
@@ -42,7 +42,7 @@ fn put_field(field: &mut [u8], value: u32) {
 }
 
 fn put_line(line: &mut [u8], values: [u32; 4]) {
-    for (field, value) in line.chunks_exact_mut(5).zip(values) {
+    for (field, value) in line.chunks_exact_mut(FIELD).zip(values) {
         put_field(field, value);
     }
     line[LINE - 1] = b'\n';

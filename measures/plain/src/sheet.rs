@@ -2,8 +2,10 @@
 
 use crate::RATIONS;
 
-pub const LINE: usize = 21;
-const FIELD: usize = 5;
+pub const FIELD: usize = 6;
+pub const LINE: usize = 4 * FIELD + 1;
+const MOST_WAKE: u32 = 2_000;
+const MOST_TANK: u32 = 250_000;
 
 #[derive(Clone, Copy, Default)]
 pub struct Ration {
@@ -65,7 +67,7 @@ pub fn read(bytes: &[u8]) -> Result<Sheet, Refusal> {
     if !(1..=8).contains(&blowers) {
         return Err((4, 1));
     }
-    if wake > 200 {
+    if wake > MOST_WAKE {
         return Err((5, 1));
     }
     if n > 64 || n as usize != values.len() {
@@ -76,7 +78,7 @@ pub fn read(bytes: &[u8]) -> Result<Sheet, Refusal> {
     let mut before = Ration::default();
     for (i, [tank, first, last, volume]) in values.enumerate() {
         let line = i as u32 + 2;
-        if tank < 1 || tank < before.tank || tank > 999 {
+        if tank < 1 || tank < before.tank || tank > MOST_TANK {
             return Err((7, line));
         }
         if first < 1 || last < first || slots < last {

@@ -18,7 +18,7 @@ fn check(sheet: &[u8]) -> u32 {
 
 #[test]
 fn a_word_too_few_is_refused() {
-    let sheet = b"    1    1    0    0\n";
+    let sheet = b"     1     1     0     0\n";
     let (mut one, mut words) = (vec![7; PLAN_BYTES], vec![7; PLACING_WORDS]);
     for few in [0, PLACING_WORDS - 1] {
         assert_eq!(plan_both(sheet, &mut one, &mut words[..few]).number, 10);

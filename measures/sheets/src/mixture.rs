@@ -1,13 +1,13 @@
 //! Sheets of all kinds, well-formed or not, to compare answers on. A kind's share of the run is set by what the
 //! reference needs for it: a full sheet that is planned takes it most of a second.
 
-use reference::damage::{damage_meal, damaged_sheet};
+use reference::damage::{damage_meal, damaged_sheet, five_columns};
 use reference::draws::Draws;
 use reference::generate::{
     any_sheet, full_sheet, held_full_sheet, held_sheet, jagged_sheet, tight_sheet, Sizes, FULL,
     MIDDLE, SMALL,
 };
-use reference::sheet::{line_text, FIELD, LINE};
+use reference::sheet::{field_text, line_text, FIELD, LINE, MOST_TANK};
 
 /// A kind of sheet, and how many of it there are in each 10,000.
 pub struct Kind {
@@ -16,7 +16,7 @@ pub struct Kind {
     pub make: fn(&mut Draws) -> Vec<u8>,
 }
 
-pub const KINDS: [Kind; 20] = [
+pub const KINDS: [Kind; 21] = [
     kind("full, planned or held", 4, |d| full_sheet(d).text()),
     kind("full, held", 60, |d| held_full_sheet(d).text()),
     kind("causes with long sets", 10, long_sets),
@@ -36,7 +36,8 @@ pub const KINDS: [Kind; 20] = [
     kind("one field changed", 1200, one_field),
     kind("a meal changed", 600, meal_changed),
     kind("another length", 500, another_length),
-    kind("random bytes", 556, random_bytes),
+    kind("five columns", 56, in_five_columns),
+    kind("random bytes", 500, random_bytes),
 ];
 
 const fn kind(name: &'static str, share: u32, make: fn(&mut Draws) -> Vec<u8>) -> Kind {
@@ -105,10 +106,12 @@ pub fn long_sets(draws: &mut Draws) -> Vec<u8> {
 /// A well-formed sheet with one field of one line set: to a number at a limit, to one
 /// near it, or to text that is no number.
 fn one_field(draws: &mut Draws) -> Vec<u8> {
-    const NUMBERS: [u32; 13] = [0, 1, 2, 8, 9, 64, 65, 96, 97, 200, 201, 999, 1000];
-    const TEXTS: [&[u8; FIELD]; 12] = [
-        b"     ", b"   01", b"   00", b"00000", b"  1  ", b"1    ", b"   -1", b"   +1", b" 1 1 ",
-        b"\t   1", b"99999", b"    x",
+    const NUMBERS: [u32; 16] = [
+        0, 1, 2, 8, 9, 64, 65, 96, 97, 200, 999, 2_000, 65_536, 99_999, 100_000, 250_000,
+    ];
+    const TEXTS: [&[u8; FIELD]; 16] = [
+        b"      ", b"    01", b"    00", b"000000", b"   1  ", b"1     ", b"    -1", b"    +1",
+        b" 1  1 ", b"\t    1", b"999999", b"     x", b"100001", b"000001", b" 00001", b"1    1",
     ];
     let limits = some_limits(draws);
     let mut bytes = any_sheet(draws, limits).text();
@@ -124,8 +127,7 @@ fn one_field(draws: &mut Draws) -> Vec<u8> {
         field.copy_from_slice(TEXTS[draws.index(TEXTS.len())]);
     } else {
         let near = NUMBERS[draws.index(NUMBERS.len())] + draws.below(3);
-        let text = line_text([near.saturating_sub(1), 0, 0, 0]);
-        field.copy_from_slice(&text[..FIELD]);
+        field.copy_from_slice(&field_text(near.saturating_sub(1)));
     }
     bytes
 }
@@ -153,10 +155,22 @@ fn another_length(draws: &mut Draws) -> Vec<u8> {
         length -= length % LINE;
     }
     while bytes.len() < length {
-        bytes.extend(line_text([1 + draws.below(999), 1, 1, 1]));
+        bytes.extend(line_text([1 + draws.below(MOST_TANK), 1, 1, 1]));
     }
     bytes.truncate(length);
     bytes
+}
+
+/// A sheet with a column less in each field, as sheets were before request 110. Now and then it has 25 lines, or 50,
+/// and so it is as long as whole lines of six columns.
+fn in_five_columns(draws: &mut Draws) -> Vec<u8> {
+    let limits = some_limits(draws);
+    let mut bytes = any_sheet(draws, limits).text();
+    if draws.one_in(4) {
+        let lines = 25 * draws.between(1, 2) as usize;
+        bytes = bytes.iter().copied().cycle().take(lines * LINE).collect();
+    }
+    five_columns(&bytes)
 }
 
 /// Bytes at random: of all values, or of those that a sheet is made of.
@@ -209,6 +223,17 @@ mod tests {
             }
         }
         assert!(near >= 8 && cut >= 8, "{near} near, {cut} cut");
+    }
+
+    #[test]
+    fn sheets_in_five_columns_are_refused_by_length_or_form() {
+        let draws = &mut Draws::new(1);
+        let mut numbers = [0; 3];
+        for _ in 0..200 {
+            let refusal = read(&in_five_columns(draws)).expect_err("five columns");
+            numbers[refusal.number as usize] += 1;
+        }
+        assert!(numbers[1] > 100 && numbers[2] > 20, "{numbers:?}");
     }
 
     #[test]

@@ -1,6 +1,7 @@
 //! Days for the power bill (request 103), which several streams share.
 
 use super::sheets::{day_of, Lines};
+use crate::sheet::MOST_WAKE;
 
 /// For each hour a day with one feeding in its first slot, whose start costs, and one with
 /// one in its last slot, whose start is free.
@@ -55,7 +56,7 @@ pub fn start_days() -> Vec<Lines> {
 /// Eight blowers busy together from a slot on to the end of the day, at the greatest wake
 /// cost: from the first slot of each rate.
 pub fn dear_days() -> Vec<Lines> {
-    let busy_from = |first| day_of(96, 8, 200, &[[first, 96, 97 - first]; 8]);
+    let busy_from = |first| day_of(96, 8, MOST_WAKE, &[[first, 96, 97 - first]; 8]);
     [1, 25, 37, 69, 85].map(busy_from).to_vec()
 }
 
@@ -103,16 +104,16 @@ mod tests {
     }
 
     #[test]
-    fn dear_days_cost_thousands_of_cents() {
+    fn dear_days_cost_hundreds_of_hundreds_of_cents() {
         let charges = charges(&dear_days());
         let expected = [
-            8 * (2_412 + 200 * 18),
-            8 * (1_980 + 200 * 31),
-            8 * (1_608 + 200 * 24),
-            8 * (840 + 200 * 36),
-            8 * (264 + 200 * 22),
+            8 * (2_412 + 2_000 * 18),
+            8 * (1_980 + 2_000 * 31),
+            8 * (1_608 + 2_000 * 24),
+            8 * (840 + 2_000 * 36),
+            8 * (264 + 2_000 * 22),
         ];
         assert_eq!(charges, expected);
-        assert!(charges.into_iter().all(|charge| cents(charge) > 3_000));
+        assert!(charges.into_iter().all(|charge| cents(charge) > 30_000));
     }
 }

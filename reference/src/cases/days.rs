@@ -1,15 +1,15 @@
 //! Days by the program's whole output: those of document 01, days with several meals for
-//! a tank, days with a charge in each hour or near a half, and each refusal as they are
-//! written, days at the limits by digest. Then generated sheets of all sizes, planned with
-//! both buffers: `D number line length`, the digest of the listing and that of the placing
-//! buffer. The payload is a sheet.
+//! a tank, days with a charge in each hour or near a half, days with great tanks and wake
+//! costs, and each refusal as they are written, days at the limits by digest. Then generated
+//! sheets of all sizes, planned with both buffers: `D number line length`, the digest of the
+//! listing and that of the placing buffer. The payload is a sheet.
 
 use super::bill::{dear_days, hour_days, rounding_days, start_days};
 use super::meals::{full_meal_days, meal_days};
 use super::shares::Share;
 use super::sheets::{
     beyond_days, document_days, full_day, limit_days, refused_by, settled_days, text,
-    too_long_sheet, SHEET_CHECKS,
+    too_long_sheet, wide_days, SHEET_CHECKS,
 };
 use super::{digest, digest_words, lent_buffer, lent_words, Case};
 use crate::draws::Draws;
@@ -47,13 +47,14 @@ const FULL_SHEETS: u32 = 60;
 const HELD_FULL_SHEETS: u32 = 40;
 
 /// Sheets whose whole output is written: the days of document 01, those with several
-/// meals, small ones for the bill, and those that each check refuses.
+/// meals, small ones for the bill, those for six columns, and those that each check refuses.
 fn small_sheets() -> Vec<Vec<u8>> {
     let days = [
         document_days(),
         meal_days(),
         hour_days(),
         rounding_days(),
+        wide_days(),
         beyond_days(),
     ]
     .concat();

@@ -1,6 +1,7 @@
 //! Days with several meals for a tank (request 102), which several streams share.
 
 use super::sheets::Lines;
+use crate::sheet::{MOST_TANK, MOST_WAKE};
 
 /// Two meals of tank 5 whose windows touch, and a tank above it.
 pub fn touching_day() -> Lines {
@@ -33,10 +34,10 @@ pub fn meal_days() -> Vec<Lines> {
     ]
 }
 
-/// 64 meals of one tank, a slot each.
+/// 64 meals of one tank, the greatest, a slot each.
 pub fn one_tank_day() -> Lines {
-    let meals = (1..=64).map(|slot| [999, slot, slot, 1]);
-    [[96, 8, 200, 64]].into_iter().chain(meals).collect()
+    let meals = (1..=64).map(|slot| [MOST_TANK, slot, slot, 1]);
+    [[96, 8, MOST_WAKE, 64]].into_iter().chain(meals).collect()
 }
 
 /// Days of 96 slots and 64 meals: eight blowers do, and seven do not, but for the day of

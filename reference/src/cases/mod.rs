@@ -49,7 +49,7 @@ const END: u8 = b'E';
 
 /// The stream: for each case the operation, the argument in five columns, a blank,
 /// the payload's length in eight columns, byte 10 and the payload; at the end a
-/// header with operation `E`.
+/// header with operation `E`. A header has no fields of a sheet.
 pub fn stream(cases: &[Case]) -> Vec<u8> {
     let mut bytes = Vec::new();
     let end = Case::new(END, 0, []);

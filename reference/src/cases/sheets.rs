@@ -2,7 +2,8 @@
 //! sheets that each check of a sheet refuses.
 
 use super::meals::{three_meals_day, touching_day};
-use crate::sheet::{line_text, LINE, LONGEST_SHEET};
+use crate::damage::five_columns;
+use crate::sheet::{line_text, FIELD, LINE, LONGEST_SHEET, MOST_TANK, MOST_WAKE};
 
 /// The numbers by which a sheet itself is refused.
 pub const SHEET_CHECKS: [u32; 10] = [1, 2, 3, 4, 5, 6, 7, 8, 9, 13];
@@ -24,11 +25,21 @@ pub fn held_day() -> Lines {
     vec![[3, 1, 1, 2], [1, 1, 2, 2], [2, 2, 3, 2]]
 }
 
-/// 96 slots, 8 blowers, wake cost 200, 64 rations up to tank 999.
+/// The tank of the full day's ration i: 16, 31, .., 601, then 10,001, 20,001, .., 230,001,
+/// and the greatest.
+pub fn full_day_tank(i: u32) -> u32 {
+    match i {
+        1..=40 => 15 * i + 1,
+        41..=63 => 10_000 * (i - 40) + 1,
+        _ => MOST_TANK,
+    }
+}
+
+/// 96 slots, 8 blowers, the greatest wake cost, 64 rations up to the greatest tank.
 pub fn full_day() -> Lines {
-    let mut lines = vec![[96, 8, 200, 64]];
+    let mut lines = vec![[96, 8, MOST_WAKE, 64]];
     for i in 1..=64 {
-        let tank = if i == 64 { 999 } else { 15 * i + 1 };
+        let tank = full_day_tank(i);
         let first = 1 + (i * 37) % 90;
         let last = (first + (i * 11) % 60).min(96);
         let volume = 1 + (i * 5) % (last - first + 1);
@@ -66,13 +77,32 @@ pub fn document_days() -> Vec<Lines> {
     ]
 }
 
-/// The days of document 01 beyond the limits: 97 slots, 9 blowers, wake cost 201.
+/// The days of document 01 beyond the limits: 97 slots, 9 blowers, wake cost 2,001.
 pub fn beyond_days() -> Vec<Lines> {
     vec![
-        vec![[97, 8, 200, 0]],
-        vec![[96, 9, 200, 0]],
-        vec![[96, 8, 201, 0]],
+        vec![[97, 8, MOST_WAKE, 0]],
+        vec![[96, 9, MOST_WAKE, 0]],
+        vec![[96, 8, MOST_WAKE + 1, 0]],
     ]
+}
+
+/// Days for six columns (request 110): wake costs at which a stretch of 94 slots within the
+/// day is off, and at which it is on, up to the greatest; and tanks of every width, among
+/// them those that five columns do not hold, all in one slot and with several meals.
+pub fn wide_days() -> Vec<Lines> {
+    let wakes = [94, 95, 96, 199, 200, 201, 999, 1_000, 1_999, MOST_WAKE];
+    let waking = wakes.map(|wake| day_of(96, 1, wake, &[[1, 1, 1], [96, 96, 1]]));
+    let tanks = [9, 99, 999, 9_999, 99_999, 100_000, MOST_TANK - 1, MOST_TANK];
+    let feeds = tanks.map(|tank| [tank, 2, 2, 1]);
+    let tanks_day = [vec![[3, 8, MOST_WAKE, 8]], feeds.to_vec()].concat();
+    let meals_day = vec![
+        [9, 1, 2, 4],
+        [99_999, 1, 2, 1],
+        [100_000, 3, 5, 2],
+        [MOST_TANK, 2, 3, 1],
+        [MOST_TANK, 7, 9, 3],
+    ];
+    [waking.to_vec(), vec![tanks_day, meals_day]].concat()
 }
 
 /// Rations `windows` lists by first slot, last slot and volume, with tanks 1, 2, ..
@@ -91,7 +121,7 @@ pub fn limit_days() -> Vec<Lines> {
     let mut days = Vec::new();
     for slots in [1, 96] {
         for blowers in [1, 8] {
-            for wake in [0, 200] {
+            for wake in [0, MOST_WAKE] {
                 days.push(day_of(slots, blowers, wake, &[]));
                 for n in [1, 8, 64] {
                     days.push(day_of(slots, blowers, wake, &vec![[1, slots, 1]; n]));
@@ -115,7 +145,7 @@ pub fn settled_days() -> Vec<Lines> {
     let mut days = Vec::new();
     for window in [parts, every_other, stairs] {
         let windows: Vec<[u32; 3]> = (0..64).map(window).collect();
-        for (blowers, wake) in [(8, 0), (8, 1), (8, 2), (8, 200), (7, 1)] {
+        for (blowers, wake) in [(8, 0), (8, 1), (8, 2), (8, MOST_WAKE), (7, 1)] {
             days.push(day_of(96, blowers, wake, &windows));
         }
     }
@@ -125,15 +155,32 @@ pub fn settled_days() -> Vec<Lines> {
 /// The shortest sheet in good form that is too long.
 pub fn too_long_sheet() -> Vec<u8> {
     let lines = LONGEST_SHEET as u32 / LINE as u32;
-    let mut bytes = line_text([96, 8, 200, lines]).to_vec();
+    let mut bytes = line_text([96, 8, MOST_WAKE, lines]).to_vec();
     for i in 1..=lines {
         bytes.extend(line_text([i, 1, 2, 1]));
     }
     bytes
 }
 
-/// Sheets that check `number`, one of `SHEET_CHECKS`, refuses: the first day with a fault,
-/// and days whose meals overlap.
+/// Bytes of a line in five columns, as lines were before request 110, and of the least plan
+/// buffer of then.
+pub const FIVE_COLUMN_LINE: usize = 21;
+pub const FIVE_COLUMN_PLAN: usize = 32_303;
+
+/// A day in five columns.
+pub fn in_five_columns(lines: &[[u32; 4]]) -> Vec<u8> {
+    five_columns(&text(lines))
+}
+
+/// A day of so many lines.
+pub fn day_of_lines(lines: usize) -> Lines {
+    let slots = (1..=96).cycle().take(lines - 1);
+    let windows: Vec<[u32; 3]> = slots.map(|slot| [slot, slot, 1]).collect();
+    day_of(96, 8, 1, &windows)
+}
+
+/// Sheets that check `number`, one of `SHEET_CHECKS`, refuses: the first day with a fault or
+/// in five columns, and days whose meals overlap.
 pub fn refused_by(number: u32) -> Vec<Vec<u8>> {
     let bytes = text(&first_day());
     let spoilt = |at: usize, byte: u8| {
@@ -151,17 +198,20 @@ pub fn refused_by(number: u32) -> Vec<Vec<u8>> {
             bytes[..LINE - 1].to_vec(),
             bytes[..bytes.len() - 1].to_vec(),
             [&bytes[..], b"\n"].concat(),
+            in_five_columns(&first_day()),
         ],
         2 => vec![
             spoilt(0, b'0'),
-            spoilt(2 * LINE + 4, b'x'),
+            spoilt(2 * LINE + FIELD - 1, b'x'),
             spoilt(bytes.len() - 1, b'\r'),
+            // 25 lines of five columns are as long as 21 of six.
+            in_five_columns(&day_of_lines(25)),
         ],
         3 => changed(0, 0, &[0, 97]),
         4 => changed(0, 1, &[0, 9]),
-        5 => changed(0, 2, &[201]),
+        5 => changed(0, 2, &[MOST_WAKE + 1]),
         6 => changed(0, 3, &[2, 4, 65]),
-        7 => [changed(1, 0, &[0, 1000]), changed(3, 0, &[1])].concat(),
+        7 => [changed(1, 0, &[0, MOST_TANK + 1]), changed(3, 0, &[1])].concat(),
         8 => [changed(1, 1, &[0, 3]), changed(2, 2, &[5])].concat(),
         9 => [changed(2, 3, &[0]), changed(3, 3, &[3])].concat(),
         13 => vec![
@@ -177,6 +227,8 @@ pub fn refused_by(number: u32) -> Vec<Vec<u8>> {
 #[cfg(test)]
 mod tests {
     use super::*;
+    use crate::listing::program;
+    use crate::method;
     use crate::sheet::read;
 
     #[test]
@@ -194,7 +246,41 @@ mod tests {
 
     #[test]
     fn the_other_days_are_well_formed() {
-        let days = [document_days(), limit_days(), settled_days()].concat();
+        let days = [document_days(), limit_days(), settled_days(), wide_days()].concat();
         assert!(days.iter().all(|lines| read(&text(lines)).is_ok()));
+        assert_eq!(text(&day_of_lines(25)).len(), 25 * 25);
+        assert!(read(&text(&day_of_lines(25))).is_ok());
+        assert_eq!(
+            in_five_columns(&day_of_lines(25)).len(),
+            25 * FIVE_COLUMN_LINE
+        );
+        assert!(read(&text(&full_day())).is_ok());
+    }
+
+    /// The stretch within the day is off where it is as long as the wake cost.
+    #[test]
+    fn wide_days_are_planned() {
+        let energies = wide_days().into_iter().take(10).map(|lines| {
+            let sheet = read(&text(&lines)).expect("accepted");
+            let plan = method::plan(&sheet).expect("planned");
+            (plan.energy, plan.starts)
+        });
+        let on = |wake: u32| (96 + wake, 1);
+        let expected = [
+            (2 + 2 * 94, 2),
+            on(95),
+            on(96),
+            on(199),
+            on(200),
+            on(201),
+            on(999),
+            on(1_000),
+            on(1_999),
+            on(2_000),
+        ];
+        assert!(energies.eq(expected));
+        for lines in wide_days() {
+            assert!(program(&text(&lines)).starts_with(b"PLAN\n"));
+        }
     }
 }

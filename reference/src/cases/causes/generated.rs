@@ -76,7 +76,7 @@ fn nearly_long_day(draws: &mut Draws) -> Lines {
     let blowers = draws.between(2, 8);
     let stops = draws.between(3, 64 / blowers - 2);
     let v = 95 - 2 * stops - draws.below(6);
-    let mut lines = long_day([blowers, v, stops, draws.between(1, blowers)]);
+    let mut lines = long_day(([blowers, v, stops, draws.between(1, blowers)], None));
     for [_, first, last, volume] in &mut lines[1..] {
         if draws.one_in(10) {
             *first = (*first).saturating_sub(draws.below(3)).max(1);

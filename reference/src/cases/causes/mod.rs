@@ -9,13 +9,13 @@ use super::bill::start_days;
 use super::meals::{full_meal_days, meal_days};
 use super::sheets::{
     beyond_days, document_days, full_day, held_day, limit_days, refused_by, settled_days, text,
-    too_long_sheet, with, SHEET_CHECKS,
+    too_long_sheet, wide_days, with, SHEET_CHECKS,
 };
 use super::{digest, lent_buffer, numbers_of, text_of, Case};
 use crate::causes::{causes, entries, why, CAUSES_BUFFER};
 use crate::sheet::read;
-pub use days::long_day;
 use days::{cause_days, CUT_DAYS, WHOLE_DAYS};
+pub use days::{long_day, LongDay};
 use std::collections::BTreeSet;
 
 /// The longest buffer that is lent: the most that the gate program has room for.
@@ -33,9 +33,9 @@ const LENGTHS: [usize; 5] = [
 /// Sheets with two faults, of which the earlier check's is named.
 fn faulty_twice() -> Vec<Vec<u8>> {
     let days = [
-        vec![[97, 9, 201, 65]],
-        vec![[96, 9, 201, 65]],
-        vec![[96, 8, 201, 65]],
+        vec![[97, 9, 2_001, 65]],
+        vec![[96, 9, 2_001, 65]],
+        vec![[96, 8, 2_001, 65]],
         // A tank, a window, a volume, an early meal, each of them on a day that is held.
         with(with(held_day(), 2, 0, 0), 2, 1, 0),
         with(with(held_day(), 2, 1, 0), 2, 3, 4),
@@ -47,7 +47,14 @@ fn faulty_twice() -> Vec<Vec<u8>> {
 
 /// Sheets whose whole listing is written.
 fn small_sheets() -> Vec<Vec<u8>> {
-    let days = [document_days(), meal_days(), cause_days(), beyond_days()].concat();
+    let days = [
+        document_days(),
+        meal_days(),
+        wide_days(),
+        cause_days(),
+        beyond_days(),
+    ]
+    .concat();
     let mut sheets: Vec<Vec<u8>> = days.iter().map(|lines| text(lines)).collect();
     sheets.extend(SHEET_CHECKS.into_iter().flat_map(refused_by));
     sheets.extend(faulty_twice());
@@ -108,7 +115,7 @@ fn lent_sheets() -> Vec<Vec<u8>> {
         sheets.extend(refused_by(number).into_iter().take(1));
     }
     sheets.extend(faulty_twice());
-    for long in [WHOLE_DAYS[0], CUT_DAYS[0], CUT_DAYS[2]] {
+    for long in [WHOLE_DAYS[0], CUT_DAYS[0], CUT_DAYS[1], CUT_DAYS[3]] {
         sheets.push(text(&long_day(long)));
     }
     sheets
@@ -176,6 +183,7 @@ mod tests {
     use super::*;
     use crate::cases::assert_streamed;
     use crate::cases::sheets::first_day;
+    use crate::sheet::field_text;
 
     #[test]
     fn the_stream_holds_the_cases() {
@@ -213,7 +221,7 @@ mod tests {
                 assert!(answers.iter().any(|a| a.starts_with(&start)), "{number}");
             }
             if number != 0 && number != 10 {
-                let start = format!("HELD\n{number:>5}").into_bytes();
+                let start = [b"HELD\n", &field_text(number)[..]].concat();
                 assert!(answers.iter().any(|a| a.starts_with(&start)), "{number}");
             }
         }
@@ -232,11 +240,11 @@ mod tests {
             [1, 0, 1, 1],
             [1, 0, 0, 0],
         ]);
-        let whole = [b"Y 0 0 168 0\n", &listing[..]].concat();
+        let whole = [b"Y 0 0 200 0\n", &listing[..]].concat();
         assert_eq!(answer(&Case::new(b'Y', 0, &first[..])), whole);
         assert_eq!(answer(&Case::new(b'W', 0, &first[..])), listing);
         assert_eq!(answer(&Case::new(b'Y', 0, &held[..])), b"Y 12 0 0 0\n");
-        let output = b"HELD\n   12    1    2    1\n    2    0    0    0\n";
+        let output = b"HELD\n    12     1     2     1\n     2     0     0     0\n";
         assert_eq!(answer(&Case::new(b'W', 0, &held[..])), output);
         for length in LENGTHS {
             let mut buffer = lent_buffer(length);
@@ -245,7 +253,7 @@ mod tests {
             assert_eq!(answer(&call_case(length, &held)), expected.as_bytes());
             if length >= CAUSES_BUFFER {
                 buffer[..listing.len()].copy_from_slice(&listing);
-                let expected = format!("C 0 0 168 0\nD {}\n", digest(&buffer));
+                let expected = format!("C 0 0 200 0\nD {}\n", digest(&buffer));
                 assert_eq!(answer(&call_case(length, &first)), expected.as_bytes());
             }
         }

@@ -4,8 +4,8 @@
 
 use super::exact_hall;
 use crate::cases::sheets::{
-    day_of, document_days, first_day, full_day, held_day, refused_by, settled_days, text, with,
-    Lines, SHEET_CHECKS,
+    day_of, document_days, first_day, full_day, held_day, refused_by, settled_days, text,
+    wide_days, with, Lines, FIVE_COLUMN_PLAN, SHEET_CHECKS,
 };
 use crate::groups::{Group, LONGEST_LISTING, LONGEST_PLACING, ODD_HALLS, ODD_LIMITS};
 use crate::halls::{Hall, MOST_HALLS, MOST_LIMIT};
@@ -21,6 +21,7 @@ pub fn groups() -> Vec<Group> {
         buffers(),
         absent(),
         pairs(),
+        wide(),
         large(),
     ]
     .concat()
@@ -78,7 +79,10 @@ fn refused_halls() -> Vec<Hall> {
 /// takes a slot from those after it. Again with two blowers in a hall, where a hall may be
 /// held by the limit alone.
 fn combined() -> Vec<Group> {
-    let mut refused = refused_halls().into_iter().cycle();
+    // Each hall goes through all refusals, two halls not side by side.
+    let refusals = refused_halls();
+    let from = |hall: usize| refusals.iter().cycle().skip(7 * hall);
+    let mut refused: [_; MOST_HALLS] = std::array::from_fn(from);
     let sets = [
         (1, 1..=4, [any_slot(4), held_day()]),
         (
@@ -95,7 +99,7 @@ fn combined() -> Vec<Group> {
         for size in sizes {
             for combination in 0..3_usize.pow(size) {
                 let halls = (0..size).map(|i| match combination / 3_usize.pow(i) % 3 {
-                    2 => refused.next().expect("the refusals go round"),
+                    2 => refused[i as usize].next().expect("they go round").clone(),
                     kind => hall_of(&days[kind]),
                 });
                 groups.push(group_of(limit, halls.collect()));
@@ -158,12 +162,13 @@ fn lengths() -> Vec<Group> {
     groups
 }
 
-/// Buffers of length 0, one too short and longer for each of four halls, of which the others
-/// have just enough; also under a sheet that is held, and one that is refused.
+/// Buffers of length 0, one too short, as long as five columns took, and longer for each of
+/// four halls, of which the others have just enough; also under a sheet that is held, and one that is refused.
 fn buffers() -> Vec<Group> {
     let listings = [
         0,
         PLACING_WORDS,
+        FIVE_COLUMN_PLAN,
         PLAN_BUFFER - LINE,
         PLAN_BUFFER - 1,
         PLAN_BUFFER + 1,
@@ -224,6 +229,14 @@ fn pairs() -> Vec<Group> {
         }
     }
     groups
+}
+
+/// Days with great tanks and wake costs, each with itself, under a limit that is enough for one
+/// of them.
+fn wide() -> Vec<Group> {
+    let days = wide_days().into_iter();
+    days.map(|day| halls_of(day[0][1], &[day.clone(), day]))
+        .collect()
 }
 
 /// Halls of the most slots, blowers and rations: eight blowers busy all day in each, under

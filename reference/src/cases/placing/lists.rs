@@ -7,6 +7,7 @@ use crate::cases::sheets::{
     beyond_days, day_of, document_days, first_day, held_day, idle_first_day, limit_days,
     refused_by, settled_days, text, too_long_sheet, Lines, SHEET_CHECKS,
 };
+use crate::sheet::MOST_WAKE;
 
 pub fn shortfall_cases() -> Vec<Case> {
     let mut cases = Vec::new();
@@ -154,7 +155,7 @@ const LARGE: [u32; 9] = [
 /// Days on which the lists are at fault: of one slot, of a few and of the most.
 fn days_for_lists() -> Vec<Lines> {
     vec![
-        day_of(1, 1, 200, &[[1, 1, 1]]),
+        day_of(1, 1, MOST_WAKE, &[[1, 1, 1]]),
         day_of(2, 2, 0, &[]),
         first_day(),
         held_day(),

@@ -57,7 +57,7 @@ mod tests {
 
     #[test]
     fn the_stream_holds_the_cases() {
-        assert_streamed(&cases(), 1_000_000);
+        assert_streamed(&cases(), 1_200_000);
     }
 
     #[test]

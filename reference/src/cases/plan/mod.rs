@@ -73,7 +73,7 @@ mod tests {
 
     #[test]
     fn the_stream_holds_the_cases() {
-        assert_streamed(&cases(), 1_200_000);
+        assert_streamed(&cases(), 1_500_000);
     }
 
     /// Where a case asks for more, the gate program answers nothing.
@@ -123,8 +123,8 @@ mod tests {
         let mut first_words = [0; PLACING_WORDS];
         first_words[..4].copy_from_slice(&[0b001, 0b001, 0b110, 0b010]);
         let starts = |case: &Case, start: &str| assert!(answer(case).starts_with(start));
-        starts(&plan_case(b'P', &[PLAN_BUFFER], &first), "P 0 0 236\nD ");
-        starts(&plan_case(b'P', &[PLAN_BUFFER], &held), "P 12 0 47\nD ");
+        starts(&plan_case(b'P', &[PLAN_BUFFER], &first), "P 0 0 280\nD ");
+        starts(&plan_case(b'P', &[PLAN_BUFFER], &held), "P 12 0 55\nD ");
         assert_eq!(
             answer(&plan_case(b'G', &[PLACING_WORDS], &first)),
             format!("G 0 0 0\nD {}\n", digest_words(&first_words))

@@ -1,14 +1,18 @@
 //! Comparisons of days whose plans are known beforehand: the same plan from different
-//! sheets, and plans that differ in one slot, in D, in a list's length or in tanks alone.
+//! sheets, and plans that differ in one slot, in D, in a list's length or in tanks alone,
+//! tanks of every width among them.
 
 use super::{compare_case, Case};
 use crate::cases::sheets::{day_of, first_day, idle_first_day, settled_days, text, with, Lines};
 use crate::comparison::Tanks;
-use crate::sheet::MOST_SLOTS;
+use crate::sheet::{MOST_SLOTS, MOST_TANK, MOST_WAKE};
 
 pub fn cases() -> Vec<Case> {
-    let small: Vec<Lines> = small_plans().iter().map(day_with).collect();
-    let mut cases = all_with_all(&small);
+    let mut cases = Vec::new();
+    for plans in [small_plans(), wide_plans()] {
+        let days: Vec<Lines> = plans.iter().map(day_with).collect();
+        cases.extend(all_with_all(&days));
+    }
     for days in same_days() {
         cases.extend(all_with_all(&days));
     }
@@ -88,6 +92,24 @@ fn small_plans() -> Vec<Tanks> {
     plans
 }
 
+/// Plans of one slot with one tank, rising: to be compared as numbers, and neither as text
+/// nor by some of their digits or bits.
+fn wide_plans() -> Vec<Tanks> {
+    let tanks = [
+        1,
+        5,
+        999,
+        1_000,
+        65_537,
+        99_999,
+        100_000,
+        100_005,
+        MOST_TANK - 1,
+        MOST_TANK,
+    ];
+    tanks.map(|tank| vec![vec![tank]]).to_vec()
+}
+
 /// Days that have the same plan, though their sheets differ.
 fn same_days() -> Vec<Vec<Lines>> {
     let first = vec![vec![1], vec![1], vec![2, 3], vec![2]];
@@ -102,7 +124,7 @@ fn same_days() -> Vec<Vec<Lines>> {
         vec![
             first_day(),
             with(first_day(), 0, 1, 8),
-            with(first_day(), 0, 2, 200),
+            with(first_day(), 0, 2, MOST_WAKE),
             with(first_day(), 2, 1, 3),
             day_with(&first),
             day_with_meals(&first, 1),
@@ -113,7 +135,7 @@ fn same_days() -> Vec<Vec<Lines>> {
             with(idle_first_day(), 1, 1, 2),
             with(idle_first_day(), 1, 1, 3),
         ],
-        vec![day_of(4, 1, 0, &[]), day_of(4, 8, 200, &[])],
+        vec![day_of(4, 1, 0, &[]), day_of(4, 8, MOST_WAKE, &[])],
         // Fed in slots 3 to 5: volumes moved from meal to meal, and one meal.
         vec![
             of_tank_5(&[[1, 3, 1], [4, 6, 2]]),
@@ -123,7 +145,7 @@ fn same_days() -> Vec<Vec<Lines>> {
         // 96 slots.
         vec![
             day_with(&long),
-            with(with(day_with(&long), 0, 1, 8), 0, 2, 200),
+            with(with(day_with(&long), 0, 1, 8), 0, 2, MOST_WAKE),
             day_with_meals(&long, 10),
         ],
     ]
@@ -259,7 +281,8 @@ mod tests {
     #[test]
     fn each_day_has_the_plan_that_it_was_made_for() {
         let pairs = [near_plans(), two_differences(), other_lengths()].concat();
-        for plan in small_plans().iter().chain(pairs.as_flattened()) {
+        let alone = [small_plans(), wide_plans()].concat();
+        for plan in alone.iter().chain(pairs.as_flattened()) {
             assert_eq!(&tanks(&day_with(plan)), plan);
         }
         for plan in [short_plan(), long_plan()] {
@@ -275,6 +298,16 @@ mod tests {
                 assert!(days[i + 1..].iter().all(|other| one != other));
                 assert!(days.iter().all(|other| order(one, other) == Order::Same));
             }
+        }
+    }
+
+    #[test]
+    fn wide_tanks_are_numbers() {
+        let days: Vec<Lines> = wide_plans().iter().map(day_with).collect();
+        for (i, one) in days.iter().enumerate() {
+            assert!(days[i + 1..]
+                .iter()
+                .all(|other| order(one, other) == Order::Before));
         }
     }
 

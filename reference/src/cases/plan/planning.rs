@@ -5,7 +5,7 @@ use crate::cases::bill::{dear_days, rounding_days, start_days};
 use crate::cases::meals::{full_meal_days, meal_days};
 use crate::cases::sheets::{
     beyond_days, document_days, full_day, limit_days, refused_by, settled_days, text,
-    too_long_sheet, SHEET_CHECKS,
+    too_long_sheet, wide_days, FIVE_COLUMN_PLAN, SHEET_CHECKS,
 };
 use crate::damage::damaged_sheet;
 use crate::draws::Draws;
@@ -22,7 +22,7 @@ pub fn cases() -> Vec<Case> {
     for lines in beyond_days() {
         cases.extend(all_buffers(&text(&lines)));
     }
-    for lines in [meal_days(), rounding_days()].concat() {
+    for lines in [meal_days(), rounding_days(), wide_days()].concat() {
         cases.extend(exact_buffers(&text(&lines)));
     }
     for number in SHEET_CHECKS {
@@ -78,13 +78,15 @@ fn exact_buffers(sheet: &[u8]) -> Vec<Case> {
 }
 
 /// Each operation with buffers of length 0, one too short, exact, one longer and more, and
-/// with a plan buffer that lacks the line of the bill. A placing buffer is counted in words:
+/// with plan buffers that lack the line of the bill, or that were long enough for lines of
+/// five columns. A placing buffer is counted in words:
 /// to tell this from a count of bytes, there are placing buffers with as many words as 96
 /// bytes make and with a word for each byte of 96 words, and a plan buffer of 96 bytes.
 fn all_buffers(sheet: &[u8]) -> Vec<Case> {
     let listings = [
         0,
         MOST_WORDS,
+        FIVE_COLUMN_PLAN,
         PLAN_BUFFER - LINE,
         PLAN_BUFFER - 1,
         PLAN_BUFFER,
@@ -113,7 +115,7 @@ fn all_buffers(sheet: &[u8]) -> Vec<Case> {
 }
 
 /// A plan buffer longer than it must be: the most that the gate program has room for.
-pub const LONGER: usize = 32_782;
+pub const LONGER: usize = 39_000;
 /// A placing buffer with a word for each ration and slot: the most words that the gate
 /// program has room for. As a plan buffer's length in bytes it is too short.
 pub const MOST_WORDS: usize = (MOST_RATIONS * MOST_SLOTS) as usize;

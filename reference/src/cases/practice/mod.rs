@@ -8,12 +8,13 @@ mod inputs;
 mod seeds;
 
 use super::days::planned;
+use super::sheets::FIVE_COLUMN_LINE;
 use super::{digest, lent_buffer, numbers_of, text_of, Case};
 use crate::causes::{causes, CAUSES_BUFFER};
 use crate::practice::{practice, practice_sheet, program};
 use crate::sheet::{LINE, MOST_RATIONS};
+use inputs::{field, odd_inputs, LONG_INPUTS};
 pub use inputs::{long_input, program_inputs, OTHER_INPUTS};
-use inputs::{odd_inputs, LONG_INPUTS};
 use seeds::{ranges, seeds_in, CALL_SEEDS, PROGRAM_SEEDS};
 
 /// The longest sheet that a seed makes.
@@ -27,7 +28,16 @@ pub fn cases() -> Vec<Case> {
     let mut cases = Vec::new();
     for seed in CALL_SEEDS {
         let exact = practice_sheet(seed).text().len();
-        for length in [0, exact - LINE, exact - 1, exact, exact + 1, LONGER] {
+        let five_columns = exact / LINE * FIVE_COLUMN_LINE;
+        for length in [
+            0,
+            five_columns,
+            exact - LINE,
+            exact - 1,
+            exact,
+            exact + 1,
+            LONGER,
+        ] {
             cases.push(call_case(length, seed));
         }
     }
@@ -44,6 +54,11 @@ pub fn cases() -> Vec<Case> {
 /// The cases of every seed that the program takes, which are no part of the gate.
 pub fn all_seeds() -> Vec<Case> {
     vec![seeds_case([0, PROGRAM_SEEDS])]
+}
+
+/// The input of every seed that the program takes.
+pub fn all_inputs() -> Vec<Vec<u8>> {
+    seeds_in([0, PROGRAM_SEEDS]).map(field).collect()
 }
 
 fn call_case(length: usize, seed: u32) -> Case {
@@ -145,29 +160,36 @@ mod tests {
             panic!("one range");
         };
         assert!(seeds_in(range_of(&case.payload)).eq(0..=99_999));
+        let inputs = all_inputs();
+        assert_eq!(inputs.len(), 100_000);
+        assert_eq!(
+            (&inputs[0][..], &inputs[99_999][..]),
+            (&b"     0\n"[..], &b" 99999\n"[..])
+        );
+        assert!(inputs.iter().all(|input| input.len() == 7));
     }
 
     /// Seed 21, whose sheet `tests/practice.rs` works out by hand, and its plan and causes.
     #[test]
     fn a_seed_is_answered() {
         let sheet = text(&[[96, 5, 156, 2], [1, 90, 93, 1], [2, 96, 96, 1]]);
-        assert_eq!(answer(&Case::new(b'T', 0, *b"   21\n")), sheet);
-        let short = format!("P 10 0 0\nD {}\n", digest(&lent_buffer(62)));
-        assert_eq!(answer(&call_case(62, 21)), short.as_bytes());
+        assert_eq!(answer(&Case::new(b'T', 0, *b"    21\n")), sheet);
+        let short = format!("P 10 0 0\nD {}\n", digest(&lent_buffer(74)));
+        assert_eq!(answer(&call_case(74, 21)), short.as_bytes());
         let with_sheet = |length| {
             let mut buffer = lent_buffer(length);
-            buffer[..63].copy_from_slice(&sheet);
+            buffer[..75].copy_from_slice(&sheet);
             digest(&buffer)
         };
-        let longer = format!("P 0 0 63\nD {}\n", with_sheet(64));
-        assert_eq!(answer(&call_case(64, 21)), longer.as_bytes());
+        let longer = format!("P 0 0 75\nD {}\n", with_sheet(76));
+        assert_eq!(answer(&call_case(76, 21)), longer.as_bytes());
 
         let listing = plan_text(&method::plan(&practice_sheet(21)).expect("planned"));
         let mut words = [0; PLACING_WORDS];
         (words[93 - 1], words[96 - 1]) = (0b01, 0b10);
         let causes = why(&sheet);
         let lines = [
-            format!("S 21 0 63 {}\n", with_sheet(1_365)),
+            format!("S 21 0 75 {}\n", with_sheet(1_625)),
             format!(
                 "D 0 0 {} {} {}\n",
                 listing.len(),

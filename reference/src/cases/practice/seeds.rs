@@ -1,16 +1,18 @@
 //! Seeds for the call, and ranges of seeds whose sheets are planned and explained.
 
+use crate::practice::LAST_SEED;
+
 /// The seeds that the program takes end before this one.
-pub const PROGRAM_SEEDS: u32 = 100_000;
+pub const PROGRAM_SEEDS: u32 = LAST_SEED + 1;
 
 /// The seeds after which s is 0 and 2^32 − 1: the step just reaches 2^32, and just does not.
 const BEFORE_ZERO: u32 = 634_785_765;
 const BEFORE_LAST: u32 = 653_637_408;
 
 /// Seeds whose calls are tried with buffers of all lengths: the first and the last ones,
-/// those at the end of five columns, and those around a power of 2. The sheet of seed 9 has
-/// no ration, that of seed 99,999 has 64.
-pub const CALL_SEEDS: [u32; 20] = [
+/// those around the last that the program takes and the last that a field holds, and those
+/// around a power of 2. The sheet of seed 9 has no ration, that of seed 99,999 has 64.
+pub const CALL_SEEDS: [u32; 22] = [
     0,
     1,
     2,
@@ -23,6 +25,8 @@ pub const CALL_SEEDS: [u32; 20] = [
     PROGRAM_SEEDS - 1,
     PROGRAM_SEEDS,
     PROGRAM_SEEDS + 1,
+    999_999,
+    1_000_000,
     BEFORE_ZERO,
     BEFORE_LAST,
     (1 << 31) - 1,

@@ -3,6 +3,7 @@
 
 use crate::cases::meals::{meal_days, one_tank_day, three_meals_day, touching_day};
 use crate::cases::sheets::{with, Lines};
+use crate::sheet::{MOST_TANK, MOST_WAKE};
 
 /// The sheets whose meals are good, or at fault by checks 7, 8, 9 and 13.
 pub fn meal_sheets() -> Vec<Lines> {
@@ -18,10 +19,16 @@ pub fn meal_sheets() -> Vec<Lines> {
     // Tanks at the limits, each twice; a tank again after another one.
     for tanks in [
         [1, 1, 1],
-        [998, 999, 999],
-        [999, 999, 999],
+        [999, 999, 1_000],
+        [65_535, 65_536, 65_536],
+        [99_999, 100_000, 100_000],
+        [MOST_TANK - 1, MOST_TANK, MOST_TANK],
+        [MOST_TANK, MOST_TANK, MOST_TANK],
         [0, 0, 0],
-        [1000, 1000, 1000],
+        [MOST_TANK + 1, MOST_TANK + 1, MOST_TANK + 1],
+        [MOST_TANK, MOST_TANK, MOST_TANK + 1],
+        [MOST_TANK, MOST_TANK, MOST_TANK - 1],
+        [100_000, 100_000, 99_999],
         [5, 6, 5],
         [5, 5, 6],
         [5, 6, 6],
@@ -44,7 +51,7 @@ pub fn meal_sheets() -> Vec<Lines> {
     sheets.push(one_tank_day());
     for line in [2, 33, 64] {
         sheets.push(with(one_tank_day(), line, 1, line as u32 - 1));
-        sheets.push(with(one_tank_day(), line, 0, 998));
+        sheets.push(with(one_tank_day(), line, 0, MOST_TANK - 1));
     }
     sheets.extend(paired_faults());
     sheets
@@ -64,14 +71,14 @@ fn paired_faults() -> Vec<Lines> {
         }
     }
     // 7, 8 and 9 on line 2 or 3 before 13 below it, and 13 before them.
-    for (field, value) in [(0, 0), (0, 1000), (1, 0), (2, 10), (3, 0)] {
+    for (field, value) in [(0, 0), (0, MOST_TANK + 1), (1, 0), (2, 10), (3, 0)] {
         sheets.push(with(with(good.clone(), 1, field, value), 2, 1, 1));
         sheets.push(with(with(good.clone(), 2, field, value), 3, 1, early(3)));
         sheets.push(with(with(good.clone(), 2, 1, early(2)), 3, field, value));
     }
     sheets.push(with(with(good.clone(), 2, 1, early(2)), 3, 0, 4));
     sheets.push(with(with(good.clone(), 2, 1, early(2)), 3, 1, early(3)));
-    for (field, value) in [(0, 97), (1, 9), (2, 201), (3, 2), (3, 65)] {
+    for (field, value) in [(0, 97), (1, 9), (2, MOST_WAKE + 1), (3, 2), (3, 65)] {
         sheets.push(with(with(good.clone(), 0, field, value), 2, 1, early(2)));
     }
     sheets

@@ -1,5 +1,5 @@
 //! Cases for reading, writing and looking up: `R` reads the payload and writes the
-//! values back, `F` looks up the argument's tank in the payload, `W` writes the
+//! values back, `F` looks up a tank in a sheet, the payload's two parts, `W` writes the
 //! values listed in the payload into a lent buffer as long as the argument says.
 
 mod calls;
@@ -19,6 +19,7 @@ pub fn cases() -> Vec<Case> {
     cases.extend(forms::length_cases());
     cases.extend(forms::byte_cases());
     cases.extend(forms::field_cases());
+    cases.extend(forms::column_cases());
     cases.extend(forms::form_fault_cases());
     cases.extend(finds::find_cases());
     cases.extend(calls::write_cases());
@@ -34,7 +35,10 @@ pub fn output(cases: &[Case]) -> Vec<u8> {
 fn answer(case: &Case) -> Vec<u8> {
     match case.operation {
         b'R' => answer_read(&case.payload),
-        b'F' => answer_find(&case.payload, case.argument),
+        b'F' => {
+            let (tank, sheet) = case.parts();
+            answer_find(sheet, numbers_of(tank)[0])
+        }
         b'W' => answer_write(&case.payload, case.argument as usize),
         other => panic!("no operation {other}"),
     }
@@ -93,8 +97,8 @@ fn read_case(payload: impl Into<Vec<u8>>) -> Case {
     Case::new(b'R', 0, payload)
 }
 
-fn find_case(tank: u32, payload: impl Into<Vec<u8>>) -> Case {
-    Case::new(b'F', tank, payload)
+fn find_case(tank: u32, sheet: impl Into<Vec<u8>>) -> Case {
+    Case::in_parts(b'F', &text_of(&[tank]), &sheet.into())
 }
 
 fn write_case(buffer_length: usize, numbers: &[u32]) -> Case {
@@ -129,6 +133,20 @@ mod tests {
         }
     }
 
+    /// By their length or form, but for seven digits of which the field before takes the first
+    /// and the others are a number.
+    #[test]
+    fn other_columns_are_refused() {
+        let answers: Vec<String> = forms::column_cases().into_iter().map(answer_text).collect();
+        assert!(!answers.iter().any(|a| a.starts_with("R 0")));
+        let refused = ["R 1 0\n", "R 2 1\n", "R 2 3\n", "R 2 4\n", "F 0\n"];
+        let others = answers.iter().filter(|a| !refused.contains(&a.as_str()));
+        assert_eq!(others.count(), 9);
+        for answer in refused {
+            assert!(answers.iter().any(|a| a == answer), "{answer}");
+        }
+    }
+
     #[test]
     fn every_refusal_is_shown() {
         let answers: Vec<String> = cases().into_iter().map(answer_text).collect();
@@ -140,7 +158,7 @@ mod tests {
             let shown = |a: &String| a.starts_with(&format!("W {number} "));
             assert!(answers.iter().any(shown), "write {number}");
         }
-        for length in [0, 21, 42, 63, 64 * 21] {
+        for length in [0, LINE, 2 * LINE, 3 * LINE, 64 * LINE] {
             let shown = |a: &String| a.starts_with(&format!("F {length}\n"));
             assert!(answers.iter().any(shown), "find {length}");
         }
@@ -151,15 +169,15 @@ mod tests {
         let day = first_day();
         assert_eq!(
             answer_text(read_case(text(&day))),
-            "R 0 0 4 2 2 3 1 1 2 2 2 1 4 2 3 2 3 1\nW 0 0 84 1\n"
+            "R 0 0 4 2 2 3 1 1 2 2 2 1 4 2 3 2 3 1\nW 0 0 100 1\n"
         );
         assert_eq!(
             answer_text(find_case(2, text(&day))),
-            "F 21\n    2    1    4    2\n"
+            "F 25\n     2     1     4     2\n"
         );
         assert_eq!(answer_text(find_case(4, text(&day))), "F 0\n");
-        assert!(answer_text(write_case(83, &day.concat())).starts_with("W 10 0 0\n"));
-        assert!(answer_text(write_case(84, &day.concat())).starts_with("W 0 0 84\n"));
+        assert!(answer_text(write_case(99, &day.concat())).starts_with("W 10 0 0\n"));
+        assert!(answer_text(write_case(100, &day.concat())).starts_with("W 0 0 100\n"));
     }
 
     #[test]
@@ -190,15 +208,15 @@ mod tests {
         let refusal = |lines: &Lines| answer_text(read_case(text(lines)));
         assert_eq!(
             refusal(&day),
-            "R 0 0 4 2 2 3 5 1 2 1 5 3 4 1 6 1 4 2\nW 0 0 84 1\n"
+            "R 0 0 4 2 2 3 5 1 2 1 5 3 4 1 6 1 4 2\nW 0 0 100 1\n"
         );
         assert_eq!(
             answer_text(find_case(5, text(&day))),
-            "F 42\n    5    1    2    1\n    5    3    4    1\n"
+            "F 50\n     5     1     2     1\n     5     3     4     1\n"
         );
         let overlapping = with(day, 2, 1, 2);
         assert_eq!(refusal(&overlapping), "R 13 3\n");
-        assert!(answer_text(write_case(83, &overlapping.concat())).starts_with("W 13 3 0\n"));
+        assert!(answer_text(write_case(99, &overlapping.concat())).starts_with("W 13 3 0\n"));
         assert_eq!(answer_text(find_case(6, text(&overlapping))), "F 0\n");
         // 8 and 9 come before it on its line, a later line's 7 after it.
         assert_eq!(refusal(&with(overlapping.clone(), 2, 2, 5)), "R 8 3\n");
