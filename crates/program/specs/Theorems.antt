@@ -12,11 +12,13 @@ use lib.ListN.{length, take}
 use lib.Seq.{take-append-seam}
 use borrow.Author.Tests.{lt-ltb}
 use Rattle.line.specs.Layout.{width, lineBytes}
+use Rattle.checks.specs.declared.Refusal.{Refusal}
 use Rattle.checks.specs.Limits.{maxBytes}
 use Rattle.checks.specs.Refusals.{badForm, shortBuffer, noPlacing}
 use Rattle.checks.specs.Sheet.{sheetOf, writeSheet}
 use Rattle.checks.specs.Checks.{firstRefusal, outside, lengthFaults, faults}
-use Rattle.sheet.specs.NamedLineLaws.{names-fault, names-append, names-faults}
+use Rattle.sheet.specs.FirstRefusalLaws.{first-fault, first-append}
+use Rattle.sheet.specs.Theorems.{refusal-most}
 use Rattle.common.specs.Buffers.{padded}
 use Rattle.plan_lines.specs.Sizes.{planBytes}
 use Rattle.plan_lines.specs.Lines.{line}
@@ -73,11 +75,18 @@ program-too-long b l = rw (lt-ltb maxBytes (length b) l, or-true (ltb (length b)
 pub refusal-fits : (b : List ℕ) (short : Bool) → (planRefusal b short .number < 10 ^ width) × (planRefusal b short .line < 10 ^ width)
 unfolding planRefusal
 refusal-fits b short =
-    let n =
-    names-append _ _ (names-faults b)
-    (names-append _ _ (names-fault shortBuffer 0 short (omega arith) (omega arith))
-    (names-fault noPlacing 0 (not (canBePlanned (alone (sheetOf b)))) (omega arith) (omega arith))) in
-    (omega (arith, n .number), omega (arith, n .line))
+    first-append Fits none (faults b) _ own
+    (first-append Fits none _ _ (first-fault Fits none shortBuffer 0 short (omega arith, omega arith))
+    (first-fault Fits none noPlacing 0 (not (canBePlanned (alone (sheetOf b)))) (omega arith, omega arith)))
+  where
+    Fits : Refusal → Type 0
+    Fits r = (r .number < 10 ^ width) × (r .line < 10 ^ width)
+
+    none : Fits (record { number = 0; line = 0 })
+    none = (omega arith, omega arith)
+
+    own : Fits (firstRefusal (faults b))
+    own = let m = refusal-most b in (omega (arith, m .0), omega (arith, m .1))
 
 -- A refusal's text is read back, as a listing is (`listing-read-back`).
 pub refusal-read-back : (number l : ℕ) → number < 10 ^ width → l < 10 ^ width → ReadsAs (refusalText number l) (line number l 0 0 ∷ [])

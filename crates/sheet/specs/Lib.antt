@@ -5,8 +5,8 @@ pub mod Theorems
 -- Laws of the definitions
 pub mod CallLaws
 pub mod OwnChecks
+pub mod FirstRefusalLaws
 pub mod OwnCheckLaws
-pub mod NamedLineLaws
 -- What the functions within the crate require and ensure, and the steps of their loops
 pub mod Parts
 pub mod LineSteps

@@ -2,20 +2,20 @@
 -- checks after them, or values in range. The checks of a sheet's bytes, of flat numbers and of values alone are such
 -- checks. Assumes nothing.
 use mathlib.Core.Path.{_≡_, refl, sym, ap, subst, _∙_}
-use mathlib.Core.Bool.{Bool, true, false, not, _||_, cond}
-use mathlib.Core.List.{List, [], _∷_, _++_}
-use Prim.Native.Nat.{ℕ, suc, _*_, _%_, _≤_}
+use mathlib.Core.Bool.{Bool, true, false, cond}
+use mathlib.Core.List.{List, [], _++_}
+use Prim.Native.Nat.{ℕ, _+_, _*_, _≤_}
 use native.Mathlib.Omega.{arith}
-use lib.Dec.{ltb, eqb}
+use lib.Dec.{eqb}
 use lib.ListN.{length}
 use borrow.Author.Tests.{eqb-true}
 use Rattle.checks.specs.declared.Refusal.{Refusal}
 use Rattle.sheet.specs.declared.Reading.{Reading}
-use Rattle.line.specs.Layout.{lineBytes, fields}
-use Rattle.checks.specs.Limits.{maxBytes, maxSlots, maxBlowers, maxWake, maxRations}
-use Rattle.checks.specs.Refusals.{badLength, badForm, badSlots, badBlowers, badWake, badRations, badTank, badWindow, badVolume, noPlacing, badMeal}
-use Rattle.checks.specs.Sheet.{Job, Sheet, sheetOf, lineCount, sheetFrom}
-use Rattle.checks.specs.Checks.{fault, firstRefusal, outside, firstFaulty, tankFault, windowFault, volumeFault, mealFault, lengthFaults, formFaults, headFaults, jobFaults, jobsFaults, valueFaults, faults, flatFaults}
+use Rattle.line.specs.Layout.{fields}
+use Rattle.checks.specs.Limits.{maxSlots, maxBlowers}
+use Rattle.checks.specs.Refusals.{noPlacing}
+use Rattle.checks.specs.Sheet.{Sheet, sheetOf, sheetFrom}
+use Rattle.checks.specs.Checks.{firstRefusal, valueFaults, faults, flatFaults}
 use Rattle.sheet.specs.Calls.{accepted, refused, readingFrom, readingOf}
 use Rattle.checks.specs.NumbersLaws.{length-jobsOf}
 use Rattle.checks.specs.FaultLaws.{numbered-valueFaults, numbered-faults}
@@ -23,62 +23,24 @@ use Rattle.checks.specs.RangeLaws.{ValuesInRange, inRange-valueFaults}
 use Rattle.checks.specs.WellFormedLaws.{wellFormed-faults}
 use Rattle.sheet.specs.CallLaws.{readingFrom-accepted, none-readingFrom}
 use Rattle.checks.specs.CheckSteps.{first-left, first-right}
+use Rattle.sheet.specs.FirstRefusalLaws.{first-values, first-faults}
 use Rattle.sheet.specs.OwnChecks.{OfSheet, OwnChecks, ReadFrom}
 
 -- No check of a sheet alone has the number 12 ------------------------------------------
 
-of-none : OfSheet []
-unfolding firstRefusal
-of-none = record { not-held = λ e. omega arith }
-
-of-fault : (n line : ℕ) (x : Bool) → (n ≡ noPlacing → ⊥) → OfSheet (fault n line x)
-unfolding firstRefusal
-of-fault n line true l = record { not-held = l }
-of-fault n line false l = of-none
-
-of-append : (xs ys : List Refusal) → OfSheet xs → OfSheet ys → OfSheet (xs ++ ys)
-unfolding firstRefusal
-of-append [] ys p q = q
-of-append (x ∷ xs) ys p q = record { not-held = p .not-held }
-
-of-head : (s : Sheet) (n : ℕ) (agrees : Bool) → OfSheet (headFaults s n agrees)
-unfolding headFaults
-of-head s n agrees =
-    of-append _ _ (of-fault badSlots 1 (outside 1 maxSlots (s .slots)) (λ e. omega arith))
-    (of-append _ _ (of-fault badBlowers 1 (outside 1 maxBlowers (s .blowers)) (λ e. omega arith))
-    (of-append _ _ (of-fault badWake 1 (ltb maxWake (s .wake)) (λ e. omega arith))
-    (of-fault badRations 1 (ltb maxRations n || not agrees) (λ e. omega arith))))
-
-of-job : (slots line before until : ℕ) (j : Job) → OfSheet (jobFaults slots line before until j)
-unfolding jobFaults
-of-job slots line before until j =
-    of-append _ _ (of-fault badTank line (tankFault before (j .tank)) (λ e. omega arith))
-    (of-append _ _ (of-fault badWindow line (windowFault slots (j .release) (j .deadline)) (λ e. omega arith))
-    (of-append _ _ (of-fault badVolume line (volumeFault (j .release) (j .deadline) (j .volume)) (λ e. omega arith))
-    (of-fault badMeal line (mealFault before until (j .tank) (j .release)) (λ e. omega arith))))
-
-of-jobs : (slots line before until : ℕ) (js : List Job) → OfSheet (jobsFaults slots line before until js)
-unfolding jobsFaults
-of-jobs slots line before until [] = of-none
-of-jobs slots line before until (j ∷ js) = of-append _ _ (of-job slots line before until j)
-    (of-jobs slots (suc line) (j .tank) (j .deadline) js)
-
 of-values : (s : Sheet) (n : ℕ) (agrees : Bool) → OfSheet (valueFaults s n agrees)
-unfolding valueFaults
-of-values s n agrees = of-append _ _ (of-head s n agrees) (of-jobs (s .slots) 2 0 0 (s .jobs))
-
-of-length : (b : List ℕ) → OfSheet (lengthFaults b)
-unfolding lengthFaults
-of-length b = of-fault badLength 0 (outside lineBytes maxBytes (length b) || not (eqb (length b % lineBytes) 0))
-    (λ e. omega arith)
-
-of-form : (b : List ℕ) → OfSheet (formFaults b)
-unfolding formFaults
-of-form b = of-fault badForm (firstFaulty b 0 (lineCount b)) (ltb 0 (firstFaulty b 0 (lineCount b))) (λ e. omega arith)
+of-values s n agrees =
+    record {
+      not-held =
+          first-values (λ r. r .number ≡ noPlacing → ⊥) (λ e. omega arith) (1 + length (s .jobs)) (λ n line m k l. k) s n agrees
+          (omega arith);
+    }
 
 of-faults : (b : List ℕ) → OfSheet (faults b)
-unfolding faults
-of-faults b = of-append _ _ (of-length b) (of-append _ _ (of-form b) (of-values (sheetOf b) _ _))
+of-faults b =
+    record {
+      not-held = first-faults (λ r. r .number ≡ noPlacing → ⊥) (λ e. omega arith) 2620 (λ n line m k l. k) b (omega arith);
+    }
 
 -- Own checks ----------------------------------------------------------------------------
 

@@ -17,7 +17,7 @@ use Rattle.checks.specs.SheetLaws.{sheetOf-writeSheet, length-writeSheet}
 use Rattle.checks.specs.RangeLaws.{inRange-valueFaults, fits-inRange, meals-follow}
 use Rattle.checks.specs.WellFormedLaws.{lengthFaults-whole, whole-lengthFaults, faults-wellFormed, wellFormed-faults, wellFormed-writeSheet, writeSheet-wellFormed, valueFaults-wellFormed}
 use Rattle.checks.specs.NumbersLaws.{length-jobsOf, numbersOf-jobsOf}
-use Rattle.sheet.specs.NamedLineLaws.{names-faults}
+use Rattle.sheet.specs.FirstRefusalLaws.{first-faults}
 use Rattle.sheet.specs.WriteSteps.{write-accepted}
 use Rattle.sheet.specs.CallLaws.{readingOf-accepted, faults-readingOf, rationsRead, rationsRead-accepted, sheetRead, sheetRead-accepted, refusalAgain, refusalAgain-accepted}
 
@@ -88,7 +88,8 @@ longest-sheet-passes b e = lengthFaults-whole b (record { ge = omega arith; le =
 
 -- The number of a refusal of a sheet's bytes is at most 13, and the line that it names at most 2,620.
 pub refusal-most : (b : List ℕ) → (firstRefusal (faults b) .number ≤ 13) × (firstRefusal (faults b) .line ≤ 2620)
-refusal-most b = let n = names-faults b in (n .number, n .line)
+refusal-most b =
+    first-faults (λ r. (r .number ≤ 13) × (r .line ≤ 2620)) (omega arith, omega arith) 2620 (λ n line m k l. (m, l)) b (omega arith)
 
 -- The meals of one tank follow each other: the window of a later one begins after the last slot of an earlier one, so that no slot is in two of them.
 pub meals-apart : (s : Sheet) → valueFaults s (length (s .jobs)) true ≡ [] → (i k : ℕ) → i < k → k < length (s .jobs)
