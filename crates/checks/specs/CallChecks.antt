@@ -7,9 +7,10 @@ use Rattle.checks.specs.declared.Refusal.{Refusal}
 use Rattle.checks.specs.Refusals.{shortBuffer, badList, noPlacing, badHalls}
 use Rattle.checks.specs.Checks.{fault}
 
--- write: then the buffer, which is too short or not
-abbrev pub writeChecks : List Refusal → Bool → List Refusal
-writeChecks own short =
+-- write, plan_share: then a lent buffer, which is too short or not. A sheet whose rations are cut to a share always has
+-- a sound placing
+abbrev pub bufferChecks : List Refusal → Bool → List Refusal
+bufferChecks own short =
     own
     ++ fault shortBuffer 0 short
 

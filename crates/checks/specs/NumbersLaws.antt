@@ -2,10 +2,10 @@
 -- length. Assumes nothing.
 use mathlib.Core.Path.{_≡_, refl, sym, ap, _∙_}
 use mathlib.Core.List.{List, [], _∷_, _++_, map, map-append}
-use Prim.Native.Nat.{ℕ, zero, suc, _+_, _*_}
+use Prim.Native.Nat.{ℕ, zero, suc, _+_, _*_, _<_}
 use native.Mathlib.Numerals.{add-one}
 use native.Mathlib.Omega.{arith}
-use lib.ListN.{length, replicate}
+use lib.ListN.{length, getD, set, replicate, List·getD-append}
 use Rattle.common.specs.Lists.{range}
 use Rattle.common.specs.ListLaws.{range-snoc, length-from, flatMap-append}
 use Rattle.common.specs.Buffers.{padded, putAt}
@@ -36,6 +36,39 @@ numbersOf-jobsOf (suc n) (a ∷ b ∷ c ∷ d ∷ xs) e = ap (λ (l : List ℕ).
 
 pub length-jobsOf : (n : ℕ) (xs : List ℕ) → length xs ≡ fields * n → length (jobsOf xs) ≡ n
 length-jobsOf n xs e = omega (arith, length-numbersOf (jobsOf xs), ap length (numbersOf-jobsOf n xs e))
+
+-- One number of a ration -------------------------------------------------------------
+
+-- number k of ration j among the flat numbers, whatever follows them
+pub numbersOf-at : (none : Job) (js : List Job) (zs : List ℕ) (j k : ℕ) → j < length js → k < fields
+    → getD (numbersOf js ++ zs) (fields * j + k) 0 ≡ getD (jobNumbers (getD js j none)) k 0
+unfolding numbersOf
+numbersOf-at none [] zs j k l m = absurd (omega arith)
+numbersOf-at none (x ∷ js) zs zero k l m =
+    ap (λ i. getD (jobNumbers x ++ (numbersOf js ++ zs)) i 0) (first k) ∙ List·getD-append (jobNumbers x) (numbersOf js ++ zs) 0 k m
+  where
+    first : (k : ℕ) → fields * zero + k ≡ k
+    first k = omega arith
+numbersOf-at none (x ∷ js) zs (suc j) k l m =
+    ap (λ i. getD (jobNumbers x ++ (numbersOf js ++ zs)) i 0) (next j k) ∙ numbersOf-at none js zs j k (omega arith) m
+  where
+    next : (j k : ℕ) → fields * suc j + k ≡ suc (suc (suc (suc (fields * j + k))))
+    next j k = omega arith
+
+-- its volume set to another number
+abbrev pub withVolume : ℕ → Job → Job
+withVolume v x = record { tank = x .tank; release = x .release; deadline = x .deadline; volume = v }
+
+pub numbersOf-set : (none : Job) (js : List Job) (zs : List ℕ) (j v : ℕ) → j < length js
+    → set (numbersOf js ++ zs) (fields * j + 3) v ≡ numbersOf (set js j (withVolume v (getD js j none))) ++ zs
+unfolding numbersOf
+numbersOf-set none [] zs j v l = absurd (omega arith)
+numbersOf-set none (x ∷ js) zs zero v l = refl
+numbersOf-set none (x ∷ js) zs (suc j) v l =
+    ap (λ i. set (jobNumbers x ++ (numbersOf js ++ zs)) i v) (next j) ∙ ap (λ ys. jobNumbers x ++ ys) (numbersOf-set none js zs j v (omega arith))
+  where
+    next : (j : ℕ) → fields * suc j + 3 ≡ suc (suc (suc (suc (fields * j + 3))))
+    next j = omega arith
 
 -- Ration after ration ----------------------------------------------------------------
 

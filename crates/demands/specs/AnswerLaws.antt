@@ -83,7 +83,7 @@ front-over text old l =
 -- Calls that plan ------------------------------------------------------------------------------
 
 -- a problem over the sheet that passed the checks, in range where none of them applied
-module _ {own : List Refusal} {s : Sheet} (checks : OwnChecks own s) (p : Problem) (in-range : ValuesInRange 1 s (length (s .jobs)) true → ProblemInRange p) (short : Bool) where
+module _ {own : List Refusal} {s : Sheet} (checks : OwnChecks own s) (p : Problem) (in-range : ValuesInRange 0 s (length (s .jobs)) true → ProblemInRange p) (short : Bool) where
   abbrev r : Refusal
   r = firstRefusal (planChecks own short p)
 
@@ -155,7 +155,7 @@ module _ {own : List Refusal} {s : Sheet} (checks : OwnChecks own s) (p : Proble
         }
 
 -- with both buffers lent
-module _ {own : List Refusal} {s : Sheet} (checks : OwnChecks own s) (p : Problem) (in-range : ValuesInRange 1 s (length (s .jobs)) true → ProblemInRange p) where
+module _ {own : List Refusal} {s : Sheet} (checks : OwnChecks own s) (p : Problem) (in-range : ValuesInRange 0 s (length (s .jobs)) true → ProblemInRange p) where
   pub both-planned : (listing placing : List ℕ) → let r = firstRefusal (planChecks own (shortPlan listing || shortPlacing placing) p) in
       PlanBuffer p (r .number) (listedAnswer r (listingOf p) .length) listing (listingAfter r (listingOf p) listing)
       × PlacingBuffer p (r .number) placing (placingAfter r (wordsFor p) placing)

@@ -24,7 +24,7 @@ use Rattle.checks.specs.Limits.{maxRations}
 use Rattle.checks.specs.Refusals.{badLength, badForm, shortBuffer}
 use Rattle.checks.specs.Sheet.{Sheet, sheetOf, sheetFrom, writeSheet}
 use Rattle.checks.specs.Checks.{fault, outside, valueFaults, faults}
-use Rattle.checks.specs.CallChecks.{writeChecks, questionChecks, comparisonChecks, hallsChecks}
+use Rattle.checks.specs.CallChecks.{bufferChecks, questionChecks, comparisonChecks, hallsChecks}
 use Rattle.sheet.specs.Calls.{refused, readingOf, writeRefusal, writtenOf, bufferAfter, writeRefusalFor}
 use Rattle.lookup.specs.LookUp.{lookUp, placeOf}
 use Rattle.practice.specs.Practice.{practiceSheet, practiceRefusal, seedInput}
@@ -70,12 +70,12 @@ pub record DemandOne : Type 0 where
   -- 6 also where the list is not four numbers for each of n rations
   pub write : (slots blowers wake n : ℕ) (numbers out : List ℕ) → let s = sheetFrom slots blowers wake numbers in
       let r = writeRefusal s n numbers (length out) in let a = writtenOf r s in
-      FirstOf (writeChecks (valueFaults s n (eqb (fields * n) (length numbers))) (ltb (length out) (lineBytes * suc n))) (a .number) (a .line)
+      FirstOf (bufferChecks (valueFaults s n (eqb (fields * n) (length numbers))) (ltb (length out) (lineBytes * suc n))) (a .number) (a .line)
       × SheetBuffer s (a .number) (a .length) out (bufferAfter r s out)
   -- of a practice sheet 10 alone, where the buffer is too short for it
   pub practice : (seed : ℕ) (out : List ℕ) → let s = practiceSheet seed in
       let r = practiceRefusal seed (length out) in let a = writtenOf r s in
-      FirstOf (writeChecks [] (ltb (length out) (lineBytes * suc (length (s .jobs))))) (a .number) (a .line)
+      FirstOf (bufferChecks [] (ltb (length out) (lineBytes * suc (length (s .jobs))))) (a .number) (a .line)
       × SheetBuffer s (a .number) (a .length) out (bufferAfter r s out)
   -- a look-up is empty where the sheet is refused, and where it lacks the tank
   pub find : (b : List ℕ) (tank : ℕ) → ((faults b ≡ [] → ⊥) → lookUp b tank ≡ []) × (NoLineOf b tank → lookUp b tank ≡ [])
@@ -147,7 +147,7 @@ pub record DemandOne : Type 0 where
 
   pub write-rations : (slots blowers wake : ℕ) (rations : List Ration) (out : List ℕ) → let s = recordSheet slots blowers wake rations in
       let r = writeRefusalFor (recordFaults s) s (length out) in let a = writtenOf r s in
-      FirstOf (writeChecks (recordFaults s) (ltb (length out) (lineBytes * suc (length (s .jobs))))) (a .number) (a .line)
+      FirstOf (bufferChecks (recordFaults s) (ltb (length out) (lineBytes * suc (length (s .jobs))))) (a .number) (a .line)
       × SheetBuffer s (a .number) (a .length) out (bufferAfter r s out)
   pub shortfall-rations : (slots blowers wake : ℕ) (rations : List Ration) (marks : List ℕ) → let s = recordSheet slots blowers wake rations in
       let r = shortfallFor (recordFaults s) s marks in

@@ -8,5 +8,6 @@ mod comparing;
 mod hall_plans;
 mod placings;
 mod plans;
+mod share_plans;
 mod sheets;
 mod version;

@@ -1,19 +1,19 @@
 -- What a reading gives this layer: the first refusal, or rations in range that ask what the sheet's rations ask. Assumes nothing.
 use mathlib.Core.Path.{_≡_, refl, sym, ap, subst, _∙_}
 use mathlib.Core.Bool.{true}
-use mathlib.Core.List.{List, [], _∷_, _++_}
-use Prim.Native.Nat.{ℕ, zero, suc, _+_, _-_, _*_, _≤_, _<_}
+use mathlib.Core.List.{List}
+use Prim.Native.Nat.{ℕ, _-_, _*_, _≤_}
 use native.Mathlib.Omega.{arith}
-use lib.ListN.{length, getD, replicate, List·getD-append}
+use lib.ListN.{length, getD, replicate}
 use Rattle.checks.specs.declared.Refusal.{Refusal}
 use Rattle.sheet.specs.declared.Reading.{Reading}
 use Rattle.line.specs.Layout.{fields}
 use Rattle.checks.specs.Limits.{maxBlowers, maxRations}
-use Rattle.checks.specs.Sheet.{Job, Sheet, numbersOf}
+use Rattle.checks.specs.Sheet.{Sheet, numbersOf}
 use Rattle.common.specs.Buffers.{padded}
 use Rattle.sheet.specs.Calls.{accepted}
 use Rattle.checks.specs.RangeLaws.{ValuesInRange}
-use Rattle.checks.specs.NumbersLaws.{length-numbersOf}
+use Rattle.checks.specs.NumbersLaws.{length-numbersOf, numbersOf-at}
 use Rattle.sheet.specs.OwnChecks.{ReadFrom}
 use Rattle.sheet.specs.OwnCheckLaws.{read-is, read-values}
 use Rattle.common.specs.BufferLaws.{length-padded}
@@ -25,26 +25,6 @@ use Rattle.schedules.specs.DemandLaws.{noJob, length-demandsOf, demandsOf-at, j
 
 -- Accepted --------------------------------------------------------------------
 
--- the four numbers of a ration
-abbrev four : Job → List ℕ
-four x = x .tank ∷ x .release ∷ x .deadline ∷ x .volume ∷ []
-
--- number k of ration j among the flat numbers, whatever follows them
-numbersOf-at : (js : List Job) (zs : List ℕ) (j k : ℕ) → j < length js → k < fields
-    → getD (numbersOf js ++ zs) (fields * j + k) 0 ≡ getD (four (getD js j noJob)) k 0
-unfolding numbersOf
-numbersOf-at [] zs j k l m = absurd (omega arith)
-numbersOf-at (x ∷ js) zs zero k l m =
-    ap (λ i. getD (four x ++ (numbersOf js ++ zs)) i 0) (first k) ∙ List·getD-append (four x) (numbersOf js ++ zs) 0 k m
-  where
-    first : (k : ℕ) → fields * zero + k ≡ k
-    first k = omega arith
-numbersOf-at (x ∷ js) zs (suc j) k l m =
-    ap (λ i. getD (four x ++ (numbersOf js ++ zs)) i 0) (next j k) ∙ numbersOf-at js zs j k (omega arith) m
-  where
-    next : (j k : ℕ) → fields * suc j + k ≡ suc (suc (suc (suc (fields * j + k))))
-    next j k = omega arith
-
 -- the flat numbers of a sheet ask what its rations ask
 demandsFrom-sheet : (s : Sheet) → demandsFrom (s .slots) (length (s .jobs)) (padded (fields * maxRations) (numbersOf (s .jobs))) ≡ demandsOf s
 unfolding demandsFrom demandOf padded
@@ -54,9 +34,9 @@ demandsFrom-sheet s =
     sym (tab-unique noDemand (demandsOf s) (length (s .jobs)) (demandAt (s .slots) numbers) (length-demandsOf s)
     (λ j l. demandsOf-at s j l ∙ (λ i. demandOf (s .slots) (record {
       tank = getD (s .jobs) j noJob .tank;
-      release = sym (numbersOf-at (s .jobs) zs j 1 l (omega arith)) i;
-      deadline = sym (numbersOf-at (s .jobs) zs j 2 l (omega arith)) i;
-      volume = sym (numbersOf-at (s .jobs) zs j 3 l (omega arith)) i;
+      release = sym (numbersOf-at noJob (s .jobs) zs j 1 l (omega arith)) i;
+      deadline = sym (numbersOf-at noJob (s .jobs) zs j 2 l (omega arith)) i;
+      volume = sym (numbersOf-at noJob (s .jobs) zs j 3 l (omega arith)) i;
     }))))
 
 rations-sheet : {least : ℕ} (s : Sheet) → ValuesInRange least s (length (s .jobs)) true → Rations (s .slots) (length (s .jobs)) (padded (fields * maxRations) (numbersOf (s .jobs)))
@@ -69,9 +49,9 @@ rations-sheet {least} s v =
       each = λ j l.
           let r = jobsInRange-at least (s .slots) 0 0 (s .jobs) (v .jobs) j l .2 in
           let zs : List ℕ = replicate (fields * maxRations - length (numbersOf (s .jobs))) 0 in
-          let a = numbersOf-at (s .jobs) zs j 1 l (omega arith) in
-          let d = numbersOf-at (s .jobs) zs j 2 l (omega arith) in
-          let x = numbersOf-at (s .jobs) zs j 3 l (omega arith) in
+          let a = numbersOf-at noJob (s .jobs) zs j 1 l (omega arith) in
+          let d = numbersOf-at noJob (s .jobs) zs j 2 l (omega arith) in
+          let x = numbersOf-at noJob (s .jobs) zs j 3 l (omega arith) in
           record {
             release = omega (arith, r .release);
             window = omega (arith, r .window);

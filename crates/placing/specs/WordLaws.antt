@@ -6,14 +6,14 @@ use Prim.Native.Nat.{ℕ, suc, _^_, _≤_, _<_}
 use native.Mathlib.Decide.{ℕ-discrete, decLt}
 use native.Mathlib.Omega.{arith}
 use lib.Dec.{leb}
-use lib.ListN.{getD}
+use lib.ListN.{length, getD}
 use lib.Pow.{pow-mono}
 use borrow.Author.Tests.{lt-leb}
 use Rattle.common.specs.Bits.{bit, bit-le, some-bit}
 use Rattle.checks.specs.Limits.{maxSlots}
 use Rattle.theory.specs.SumsOver.{one}
 use Rattle.schedules.specs.Slots.{has}
-use Rattle.schedules.specs.Schedules.{windowOf}
+use Rattle.schedules.specs.Schedules.{Demand, windowOf}
 use Rattle.placing.specs.Rations.{releaseAt, deadlineAt, demandsFrom, Rations}
 use Rattle.placing.specs.Words.{WindowWords, VolumeBytes, inWindow}
 use Rattle.schedules.specs.WindowLaws.{has-window}
@@ -76,3 +76,14 @@ module _ {slots n : ℕ} {numbers : List ℕ} (h : Rations slots n numbers) wher
             v .volume j (rw d k) ∙ volumeOf-demandsFrom maxSlots n numbers j k ∙ sym (volumeOf-demandsFrom slots n numbers j k);
         past = λ j l. v .past j (omega arith);
       }
+
+-- they depend on the windows alone, whatever the volumes are
+pub windows-same : {slots : ℕ} {ds es : List Demand} → length es ≡ length ds
+    → ((j : ℕ) → j < length ds → windowOf es j ≡ windowOf ds j) → {W : List ℕ} → WindowWords slots ds W → WindowWords slots es W
+windows-same e same w =
+    record {
+      long = w .long;
+      few = λ t. omega (arith, w .few t, ap (λ k. 2 ^ k) e);
+      past = w .past;
+      window = λ j t l m. let k = rw e at l in ap (λ x. one (has x t)) (same j k) ∙ w .window j t k m;
+    }

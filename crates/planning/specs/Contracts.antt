@@ -12,7 +12,7 @@ use Rattle.checks.specs.Refusals.{noPlacing}
 use Rattle.checks.specs.Sheet.{Sheet}
 use Rattle.checks.specs.Checks.{firstRefusal}
 use Rattle.sheet.specs.Calls.{accepted}
-use Rattle.sheet.specs.OwnChecks.{ReadFrom, SomeReading}
+use Rattle.sheet.specs.OwnChecks.{ReadFrom}
 use Rattle.schedules.specs.Shortfall.{forced, capacity}
 use Rattle.schedules.specs.Tabulate.{tab}
 use Rattle.placing.specs.Represents.{marksOf}
@@ -57,11 +57,6 @@ NumberOf true = noPlacing
 NumberOf false = 0
 
 -- Finding it, and writing it ---------------------------------------------------------------------
-
--- a sheet was read, and no check of it applied
-pub record ReadSheet (r : Reading) : Type 0 where
-  pub some : SomeReading r
-  pub zero : r .number ≡ 0
 
 -- d is the day of whatever sheet was read, planned alone
 abbrev pub DayFound : Reading → Day → Type 0

@@ -19,12 +19,12 @@ ghost use lib.ListN.{length, replicate};
 ghost use Rattle.common.specs.Buffers.{padded};
 ghost use Rattle.checks.specs.Limits.{maxSlots, maxBlowers};
 ghost use Rattle.checks.specs.Sheet.{sheetOf};
-ghost use Rattle.sheet.specs.OwnChecks.{SomeReading};
+ghost use Rattle.sheet.specs.OwnChecks.{SomeReading, ReadSheet};
 ghost use Rattle.stretches.specs.Days.{SomeHighs};
 ghost use Rattle.plan_lines.specs.Sizes.{planBytes, placingWords};
 ghost use Rattle.planning.specs.Problem.{alone, listingOf, wordsFor};
 ghost use Rattle.planning.specs.Planning.{planRefusal, shortPlan, shortPlacing, listedAnswer, unlistedAnswer, listingAfter, placingAfter};
-ghost use Rattle.planning.specs.Contracts.{ReadSheet, DayFound, DayFoundUnder, SomeDay, DayListed, NumberOf, ReadListed, ReadPlaced, HighsIfRead, ReadUnder, ReadBoth, ReadNumbered};
+ghost use Rattle.planning.specs.Contracts.{DayFound, DayFoundUnder, SomeDay, DayListed, NumberOf, ReadListed, ReadPlaced, HighsIfRead, ReadUnder, ReadBoth, ReadNumbered};
 
 // An answer of length 0: no listing was written.
 fn refuse(number: u32, line: u32) -> Planned

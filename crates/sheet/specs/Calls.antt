@@ -12,7 +12,7 @@ use Rattle.sheet.specs.declared.Written.{Written}
 use Rattle.checks.specs.Limits.{maxRations}
 use Rattle.checks.specs.Sheet.{Sheet, sheetOf, writeSheet, numbersOf}
 use Rattle.checks.specs.Checks.{firstRefusal, faults, flatFaults}
-use Rattle.checks.specs.CallChecks.{writeChecks}
+use Rattle.checks.specs.CallChecks.{bufferChecks}
 
 -- read -----------------------------------------------------------------------
 
@@ -54,11 +54,11 @@ readingOf b = readingFrom (faults b) (sheetOf b)
 
 -- the values of flat numbers, then 10, the buffer's size
 unfoldable pub writeRefusal : Sheet → ℕ → List ℕ → ℕ → Refusal
-writeRefusal s n numbers size = firstRefusal (writeChecks (flatFaults s n numbers) (ltb size (lineBytes * suc n)))
+writeRefusal s n numbers size = firstRefusal (bufferChecks (flatFaults s n numbers) (ltb size (lineBytes * suc n)))
 
 -- the checks of the sheet alone, then 10
 unfoldable pub writeRefusalFor : List Refusal → Sheet → ℕ → Refusal
-writeRefusalFor own s size = firstRefusal (writeChecks own (ltb size (lineBytes * suc (length (s .jobs)))))
+writeRefusalFor own s size = firstRefusal (bufferChecks own (ltb size (lineBytes * suc (length (s .jobs)))))
 
 unfoldable pub writtenOf : Refusal → Sheet → Written
 writtenOf r s =

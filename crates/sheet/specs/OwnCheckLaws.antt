@@ -19,7 +19,7 @@ use Rattle.checks.specs.Checks.{firstRefusal, valueFaults, faults, flatFaults}
 use Rattle.sheet.specs.Calls.{accepted, refused, readingFrom, readingOf}
 use Rattle.checks.specs.NumbersLaws.{length-jobsOf}
 use Rattle.checks.specs.FaultLaws.{numbered-valueFaults, numbered-faults}
-use Rattle.checks.specs.RangeLaws.{ValuesInRange, inRange-valueFaults}
+use Rattle.checks.specs.RangeLaws.{ValuesInRange, inRange-valueFaults, values-looser}
 use Rattle.checks.specs.WellFormedLaws.{wellFormed-faults}
 use Rattle.sheet.specs.CallLaws.{readingFrom-accepted, none-readingFrom}
 use Rattle.checks.specs.CheckSteps.{first-left, first-right}
@@ -47,7 +47,7 @@ of-faults b =
 -- of a sheet's bytes
 pub bytes-checked : (b : List ℕ) → OwnChecks (faults b) (sheetOf b)
 bytes-checked b =
-    record { numbered = numbered-faults b; of-sheet = of-faults b; values = λ e. wellFormed-faults b e .values }
+    record { numbered = numbered-faults b; of-sheet = of-faults b; values = λ e. values-looser (wellFormed-faults b e .values) }
 
 -- of a sheet's values, whose rations are counted
 pub values-checked : (s : Sheet) → OwnChecks (valueFaults s (length (s .jobs)) true) s
@@ -55,7 +55,7 @@ values-checked s =
     record {
       numbered = numbered-valueFaults s (length (s .jobs)) true;
       of-sheet = of-values s (length (s .jobs)) true;
-      values = inRange-valueFaults s (length (s .jobs)) true;
+      values = λ e. values-looser (inRange-valueFaults s (length (s .jobs)) true e);
     }
 
 -- where flat numbers agree with the rations announced, these are the sheet's
@@ -79,9 +79,9 @@ flat-checked slots blowers wake n numbers =
       of-sheet = of-values s n agrees;
       values = λ e.
           let v = inRange-valueFaults s n agrees e in
-          subst (λ k. ValuesInRange 1 s k true)
+          values-looser (subst (λ k. ValuesInRange 1 s k true)
           (sym (length-jobsOf n numbers (sym (flat-agrees slots blowers wake n numbers e))))
-          (subst (λ t. ValuesInRange 1 s n t) (v .head .agree) v);
+          (subst (λ t. ValuesInRange 1 s n t) (v .head .agree) v));
     }
 
 pub bytes-read : (b : List ℕ) {r : Reading} → r ≡ readingOf b → ReadFrom (faults b) (sheetOf b) r
@@ -130,7 +130,7 @@ module _ {own : List Refusal} {s : Sheet} {r : Reading} (h : ReadFrom own s r) w
     pub read-is : r ≡ accepted s
     read-is = h .is ∙ readingFrom-accepted own s read-none
 
-    pub read-values : ValuesInRange 1 s (length (s .jobs)) true
+    pub read-values : ValuesInRange 0 s (length (s .jobs)) true
     read-values = h .checks .values read-none
 
   -- refused or not, it has at most 96 slots and 8 blowers

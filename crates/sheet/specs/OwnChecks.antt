@@ -20,11 +20,11 @@ pub record OfSheet (rs : List Refusal) : Type 0 where
   pub not-held : firstRefusal rs .number ≡ noPlacing → ⊥
 
 -- the checks of the sheet alone: their numbers are neither 0 nor 12, and where none applies the sheet's values are in
--- range
+-- range. A volume may be 0: those of a sheet as it is lent are not, but one that is cut may be (request 111).
 pub record OwnChecks (own : List Refusal) (s : Sheet) : Type 0 where
   pub numbered : Numbered own
   pub of-sheet : OfSheet own
-  pub values : own ≡ [] → ValuesInRange 1 s (length (s .jobs)) true
+  pub values : own ≡ [] → ValuesInRange 0 s (length (s .jobs)) true
 
 -- r is what is read of a sheet under these checks
 pub record ReadFrom (own : List Refusal) (s : Sheet) (r : Reading) : Type 0 where
@@ -36,6 +36,11 @@ pub record SomeReading (r : Reading) : Type 0 where
   pub own : List Refusal
   pub sheet : Sheet
   pub read : ReadFrom own sheet r
+
+-- .. of which none applied
+pub record ReadSheet (r : Reading) : Type 0 where
+  pub some : SomeReading r
+  pub zero : r .number ≡ 0
 
 -- what is written, and what is left in the buffer, at a refusal and a sheet
 abbrev pub Wrote : Refusal → Sheet → (old new : List ℕ) → Written → Type 0

@@ -1,0 +1,2 @@
+pub mod CutSteps
+pub mod SearchSteps
