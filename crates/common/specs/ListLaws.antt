@@ -64,11 +64,6 @@ module _ {A B : Type 0} where
   flatMap-append f [] ys = refl
   flatMap-append f (x ∷ xs) ys = ap (λ l. f x ++ l) (flatMap-append f xs ys) ∙ sym (append-assoc (f x) (flatMap f xs) (flatMap f ys))
 
-pub take-replicate : {A : Type 0} (k n : ℕ) (a : A) → k ≤ n → take k (replicate n a) ≡ replicate k a
-take-replicate zero n a l = refl
-take-replicate (suc k) zero a l = absurd (omega arith)
-take-replicate (suc k) (suc n) a l = ap (λ xs. a ∷ xs) (take-replicate k n a (omega arith))
-
 pub drop-replicate : {A : Type 0} (k n : ℕ) (a : A) → drop k (replicate n a) ≡ replicate (n - k) a
 drop-replicate zero n a = ap (λ m. replicate m a) (all n)
   where

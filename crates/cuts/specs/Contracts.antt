@@ -1,11 +1,10 @@
 -- What the functions within the crate and those for the layers above require and ensure, of whatever sheet was read.
 -- Definitions only. Assumes nothing.
 use mathlib.Core.Path.{_≡_}
-use mathlib.Core.Bool.{Bool, true, false, _&&_}
+use mathlib.Core.Bool.{Bool, true, false}
 use mathlib.Core.List.{List}
-use Prim.Native.Nat.{ℕ, _≤_, _<_}
-use lib.Dec.{leb}
-use lib.ListN.{replicate}
+use Prim.Native.Nat.{ℕ, suc, _≤_, _<_}
+use lib.ListN.{length, replicate}
 use Rattle.common.specs.Buffers.{padded}
 use Rattle.checks.specs.declared.Refusal.{Refusal}
 use Rattle.checks.specs.Limits.{maxSlots}
@@ -29,21 +28,26 @@ pub record CanAskShares (r : Reading) (W H : List ℕ) : Type 0 where
   pub windows : WindowWords maxSlots (demandsFrom maxSlots (r .rations) (r .numbers)) W
   pub highs : H ≡ padded maxSlots (replicate (r .slots) (r .blowers))
 
--- a number is a share, and the sheet cut to it has a sound placing
-unfoldable pub isPossible : Sheet → (share : ℕ) → Bool
-isPossible s share = leb share maxShare && hasPlacing (cutSheet share s)
-
-abbrev pub ShareAnswered : (share : ℕ) → Reading → Bool → Type 0
-ShareAnswered share r can = (own : List Refusal) (s : Sheet) → ReadFrom own s r → can ≡ isPossible s share
+-- whether the cut sheet has a sound placing; where it has none there is a mark for each slot of the longest day
+pub record ShareAnswered (share : ℕ) (r : Reading) (can : Bool) (marks : List ℕ) : Type 0 where
+  pub answer : (own : List Refusal) (s : Sheet) → ReadFrom own s r → can ≡ hasPlacing (cutSheet share s)
+  pub marks-long : can ≡ false → length marks ≡ maxSlots
 
 -- The greatest share ----------------------------------------------------------------
 
--- low is possible, and no number from high on is
+-- no share from this one on has a sound placing
+abbrev pub NoneFrom : Sheet → ℕ → Type 0
+NoneFrom s from = (share : ℕ) → from ≤ share → share ≤ maxShare → hasPlacing (cutSheet share s) ≡ false
+
+abbrev pub ReadNone : Reading → ℕ → Type 0
+ReadNone r from = (own : List Refusal) (s : Sheet) → ReadFrom own s r → NoneFrom s from
+
+-- low has one, and none from high on has
 pub record Between (s : Sheet) (low high : ℕ) : Type 0 where
   pub order : low < high
-  pub most : high ≤ 128
-  pub possible : isPossible s low ≡ true
-  pub above : (share : ℕ) → high ≤ share → isPossible s share ≡ false
+  pub most : high ≤ suc maxShare
+  pub possible : hasPlacing (cutSheet low s) ≡ true
+  pub none : NoneFrom s high
 
 abbrev pub ReadBetween : Reading → (low high : ℕ) → Type 0
 ReadBetween r low high = (own : List Refusal) (s : Sheet) → ReadFrom own s r → Between s low high

@@ -1,16 +1,14 @@
--- Cut volumes, the demands and the values of a cut sheet, which shares have a sound placing, and how the greatest of
--- them is known. Assumes nothing.
+-- Cut volumes, the values of a cut sheet, which shares have a sound placing, and how the greatest of them is known.
+-- Assumes nothing.
 use mathlib.Core.Path.{_≡_, refl, sym, ap, ap₂, _∙_}
 use mathlib.Core.Logic.{_⊎_, inl, inr}
-use mathlib.Core.Bool.{Bool, true, false, _&&_, false≢true}
+use mathlib.Core.Bool.{Bool, true, false, false≢true}
 use mathlib.Core.List.{List, [], _∷_, map}
 use Prim.Native.Nat.{ℕ, suc, _-_, _*_, _≤_, _<_}
 use native.Mathlib.Nat.{mul-le-mul-left}
 use native.Mathlib.Omega.{arith}
-use lib.Dec.{leb}
 use lib.ListN.{length, length-map, length-replicate}
-use borrow.Author.Tests.{le-leb, lt-leb, leb-true}
-use Rattle.common.specs.Tests.{and-true, false-of-not-true}
+use Rattle.common.specs.Tests.{false-of-not-true}
 use Rattle.checks.specs.Limits.{maxSlots}
 use Rattle.checks.specs.Sheet.{Job, Sheet}
 use Rattle.checks.specs.RangeLaws.{JobsInRange, ValuesInRange}
@@ -20,7 +18,7 @@ use Rattle.method.specs.Cases.{le-or-lt}
 use Rattle.method.specs.Method.{longest}
 use Rattle.method.specs.LongestLaws.{longest-le, longest-passes, le-longest}
 use Rattle.cuts.specs.Cuts.{maxShare, cutVolume, cutJob, cutSheet, hasPlacing, greatestShare}
-use Rattle.cuts.specs.Contracts.{isPossible, Between}
+use Rattle.cuts.specs.Contracts.{NoneFrom, Between}
 use Rattle.cuts.specs.FewerLaws.{Fewer, fewer-feasible, Nothing, nothing-feasible}
 
 -- Cut volumes -----------------------------------------------------------------------
@@ -137,52 +135,25 @@ pub share-one : {least : ℕ} (s : Sheet) → ValuesInRange least s (length (s .
 unfolding demandsOf cutSheet
 share-one {least} s v = nothing-left s 1 (nothing-of-one least (s .slots) 0 0 (s .jobs) (v .head .slots .le) (v .jobs))
 
--- Halving ---------------------------------------------------------------------------
+-- Between two shares ------------------------------------------------------------------
 
 module _ (s : Sheet) where
-  -- a share that is possible is one, and has a sound placing
-  possible-parts : (share : ℕ) → isPossible s share ≡ true → (share ≤ maxShare) × (hasPlacing (cutSheet share s) ≡ true)
-  unfolding isPossible
-  possible-parts share e =
-      let b = and-true (leb share maxShare) (hasPlacing (cutSheet share s)) e in (leb-true share maxShare (b .0), b .1)
+  -- where a share has none, no greater one has
+  pub none-from : (share : ℕ) → hasPlacing (cutSheet share s) ≡ false → NoneFrom s share
+  none-from share e above l k =
+      false-of-not-true (hasPlacing (cutSheet above s)) (λ p. false≢true (sym e ∙ smaller-share s share above l p))
 
-  parts-possible : (share : ℕ) → share ≤ maxShare → hasPlacing (cutSheet share s) ≡ true → isPossible s share ≡ true
-  unfolding isPossible
-  parts-possible share l e = rw (le-leb share maxShare l, e)
+  pub between-begin : {high : ℕ} → 0 < high → high ≤ suc maxShare → NoneFrom s high → Between s 0 high
+  between-begin l k n = record { order = l; most = k; possible = share-zero s; none = n }
 
-  pub too-great : (share : ℕ) → maxShare < share → false ≡ isPossible s share
-  unfolding isPossible
-  too-great share l = rw (lt-leb share maxShare l)
+  module _ {low high : ℕ} (b : Between s low high) (share : ℕ) where
+    pub between-up : share < high → hasPlacing (cutSheet share s) ≡ true → Between s share high
+    between-up l e = record { order = l; most = b .most; possible = e; none = b .none }
 
-  pub asked : (share : ℕ) → share ≤ maxShare → {can : Bool} → can ≡ hasPlacing (cutSheet share s) → can ≡ isPossible s share
-  unfolding isPossible
-  asked share l e = e ∙ sym (rw (le-leb share maxShare l))
+    pub between-down : low < share → share ≤ high → NoneFrom s share → Between s low share
+    between-down l k n = record { order = l; most = omega (arith, b .most); possible = b .possible; none = n }
 
-  pub between-begin : Between s 0 128
-  between-begin =
-      record {
-        order = omega arith;
-        most = omega arith;
-        possible = parts-possible 0 (omega arith) (share-zero s);
-        above = λ share l. sym (too-great share (omega arith));
-      }
-
-  module _ {low high : ℕ} (b : Between s low high) (mid : ℕ) where
-    pub between-up : mid < high → isPossible s mid ≡ true → Between s mid high
-    between-up l e = record { order = l; most = b .most; possible = e; above = b .above }
-
-    pub between-down : low < mid → mid < high → isPossible s mid ≡ false → Between s low mid
-    between-down l k e =
-        record {
-          order = l;
-          most = omega (arith, b .most);
-          possible = b .possible;
-          above = λ share m. false-of-not-true (isPossible s share) (λ p.
-              let q = possible-parts share p in
-              false≢true (sym e ∙ parts-possible mid (omega (arith, q .0)) (smaller-share s mid share m (q .1))));
-        }
-
-  -- a share that is possible, where the next is not, is the greatest
+  -- a share that has one, where no greater one has, is the greatest
   pub between-end : {low high : ℕ} → Between s low high → high ≤ suc low → low ≡ greatestShare s
   unfolding greatestShare
   between-end {low} {high} b l = sym (go (le-or-lt (longest test maxShare) low))
@@ -190,11 +161,8 @@ module _ (s : Sheet) where
       test : ℕ → Bool
       test share = hasPlacing (cutSheet share s)
 
-      p : (low ≤ maxShare) × (test low ≡ true)
-      p = possible-parts low (b .possible)
-
       go : (longest test maxShare ≤ low) ⊎ (low < longest test maxShare) → longest test maxShare ≡ low
-      go (inl k) = omega (arith, le-longest test maxShare low (p .0) (p .1))
+      go (inl k) = omega (arith, le-longest test maxShare low (omega (arith, b .order, b .most)) (b .possible))
       go (inr k) =
-          absurd (false≢true (sym (b .above (longest test maxShare) (omega arith))
-          ∙ parts-possible (longest test maxShare) (longest-le test maxShare) (longest-passes test (share-zero s) maxShare)))
+          absurd (false≢true (sym (b .none (longest test maxShare) (omega arith) (longest-le test maxShare))
+          ∙ longest-passes test (share-zero s) maxShare))

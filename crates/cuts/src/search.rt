@@ -1,46 +1,119 @@
-// The greatest share that has a sound placing, by halving.
+// The greatest share that has a sound placing, from above. It is looked for between two shares, one that has a placing
+// and one from which on none has, and what is asked about is the greatest that is left between them. Where the answer
+// is no, the search leaves the slots that show why, and what smaller shares force into these slots tells how many of
+// those have none either, without another question.
 use crate::Ends;
 use crate::cutting;
-use placing::feasibility;
+use placing::begin;
 use placing::held;
 use placing::windows;
 use sheet::Reading;
-ghost use Prim.Native.Nat.{_+_, _-_, _<_};
+ghost use mathlib.Core.Path.{_≡_};
+ghost use mathlib.Core.Bool.{true};
+ghost use Prim.Native.Nat.{_+_, _-_, _≤_, _<_};
+ghost use lib.IntN.{pos};
+ghost use lib.Signed.{ltZ};
 ghost use Rattle.sheet.specs.OwnChecks.{ReadSheet};
-ghost use Rattle.cuts.specs.Contracts.{CanAskShares, ShareAnswered, ReadBetween, ShareFound};
+ghost use Rattle.cuts.specs.Cuts.{maxShare};
+ghost use Rattle.cuts.specs.Contracts.{CanAskShares, ShareAnswered, ReadNone, ReadBetween, ShareFound};
 
 const MAX_SHARE: u32 = 100;
 
-// Whether a number is a share for which the cut sheet has a sound placing. `words` has the sheet's windows, which no
-// share changes, and `highs` its blowers in each slot.
-fn can_share(share: u32, sheet: Reading, words: &[u64; 96], highs: &[u8; 96]) -> bool
-    requires { ⌜ CanAskShares sheet (now words) (now highs) ⌝ }
-    ensures { λ r. ⌜ ShareAnswered share sheet r ⌝ }
+// Whether the sheet cut to a share has a sound placing; where it has none, the marks are left on slots that show why.
+// `words` has the sheet's windows, which no share changes, and `highs` its blowers in each slot.
+fn can_share(
+    share: u32,
+    sheet: Reading,
+    words: &[u64; 96],
+    highs: &[u8; 96],
+    marks: &mut [u8; 96],
+) -> bool
+    requires { ⌜ CanAskShares sheet (now words) (now highs) × (share ≤ maxShare) ⌝ }
+    ensures { λ r. ⌜ ShareAnswered share sheet r (now (marks .exit)) ⌝ }
 {
-    if MAX_SHARE < share {
-        return false;
-    }
     let cut = cutting::cut_sheet(share, sheet);
     let numbers = cut.numbers;
     let volumes = windows::volumes_of(cut.rations as usize, &numbers);
-    let lows = [0u8; 96];
-    feasibility::is_feasible(cut.slots as usize, words, &volumes, &lows, highs)
+    let mut fed = [0u64; 96];
+    let mut rest = [0u64; 96];
+    let mut spare = [0u8; 96];
+    begin::begin(
+        words,
+        &volumes,
+        highs,
+        &mut fed,
+        &mut rest,
+        &mut spare,
+        marks,
+    )
 }
 
-// The half of the shares between two ends in which the greatest lies: one question, and none above 100.
-fn halve(low: u32, high: u32, sheet: Reading, words: &[u64; 96], highs: &[u8; 96]) -> Ends
+// Whether a shortfall is above zero.
+fn is_lacking(shortfall: i32) -> bool
+    ensures { λ r. ⌜ r ≡ ltZ (pos 0) shortfall ⌝ }
+{
+    0 < shortfall
+}
+
+// Whether the marked slots show that the sheet cut to a share has no sound placing: more is forced into them than the
+// blowers can make.
+fn is_short(share: u32, sheet: Reading, marks: &[u8]) -> bool
+    requires { ⌜ ReadSheet sheet × (share ≤ maxShare) ⌝ }
+    ensures { λ r. ⌜ (r ≡ true → ReadNone sheet share) ⌝ }
+{
+    let cut = cutting::cut_sheet(share, sheet);
+    let answer = questions::shortfall_of(cut, marks);
+    is_lacking(answer.shortfall)
+}
+
+// The half of the shares between two ends in which the least lies that the marked slots show to have no placing.
+fn halve(low: u32, high: u32, sheet: Reading, marks: &[u8]) -> Ends
+    requires { ⌜ ReadSheet sheet × ReadNone sheet high × (low + 1 < high) × (high ≤ maxShare + 1) ⌝ }
+    ensures { λ r. ⌜ ReadNone sheet (r .high) × (low ≤ r .low) × (r .low < r .high) × (r .high ≤ high) × (r .high - r .low < high - low) ⌝ }
+{
+    let mid = (low + high) / 2;
+    if is_short(mid, sheet, marks) {
+        return Ends { low, high: mid };
+    }
+    Ends { low: mid, high }
+}
+
+// The least share above `low` of which the marked slots show that it has no placing; `high` where they show it of none
+// below that.
+fn least_short(low: u32, high: u32, sheet: Reading, marks: &[u8]) -> u32
+    requires { ⌜ ReadSheet sheet × ReadNone sheet high × (low < high) × (high ≤ maxShare + 1) ⌝ }
+    ensures { λ r. ⌜ ReadNone sheet r × (low < r) × (r ≤ high) ⌝ }
+{
+    let mut least = low;
+    let mut most = high;
+    while least + 1 < most {
+        let ends = halve(least, most, sheet, marks);
+        least = ends.low;
+        most = ends.high;
+    }
+    most
+}
+
+// Asks about the greatest share below `high`, and moves one of the two ends: `low` to it where it has a placing, `high`
+// below it where it has none, as far as the slots that show it allow.
+fn narrow(low: u32, high: u32, sheet: Reading, words: &[u64; 96], highs: &[u8; 96]) -> Ends
     requires { ⌜ CanAskShares sheet (now words) (now highs) × ReadBetween sheet low high × (low + 1 < high) ⌝ }
     ensures { λ r. ⌜ ReadBetween sheet (r .low) (r .high) × (r .high - r .low < high - low) ⌝ }
 {
-    let mid = (low + high) / 2;
-    if can_share(mid, sheet, words, highs) {
-        return Ends { low: mid, high };
+    let share = high - 1;
+    let mut marks = [0u8; 96];
+    if can_share(share, sheet, words, highs, &mut marks) {
+        return Ends { low: share, high };
     }
-    Ends { low, high: mid }
+    let slots = sheet.slots as usize;
+    Ends {
+        low,
+        high: least_short(low, share, sheet, &marks[0..slots]),
+    }
 }
 
-// The greatest share for which the cut sheet has a sound placing. Seven questions at most, since there are 128 numbers
-// between the first ends; three where the sheet has one as it is: about 64, 96 and 100.
+// The greatest share for which the cut sheet has a sound placing. No share is asked about of which all slots together
+// show that it has none, by the sum of the volumes. Most sheets take one or two questions.
 pub fn greatest_share(sheet: Reading) -> u32
     requires { ⌜ ReadSheet sheet ⌝ }
     ensures { λ r. ⌜ ShareFound sheet r ⌝ }
@@ -49,11 +122,13 @@ pub fn greatest_share(sheet: Reading) -> u32
     let mut words = [0u64; 96];
     windows::mark_windows(&mut words, sheet.rations as usize, &numbers);
     let mut highs = [0u8; 96];
-    held::set_highs(&mut highs, sheet.slots as usize, sheet.blowers as u8);
+    let slots = sheet.slots as usize;
+    held::set_highs(&mut highs, slots, sheet.blowers as u8);
+    let all = [1u8; 96];
     let mut low = 0;
-    let mut high = 128;
+    let mut high = least_short(low, MAX_SHARE + 1, sheet, &all[0..slots]);
     while low + 1 < high {
-        let ends = halve(low, high, sheet, &words, &highs);
+        let ends = narrow(low, high, sheet, &words, &highs);
         low = ends.low;
         high = ends.high;
     }
