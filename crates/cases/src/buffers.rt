@@ -1,4 +1,4 @@
-// Lent buffers: what they hold before a call, and a digest of what they hold after it.
+// Lent buffers: the front of a room, what they hold before a call, and a digest of what they hold after it.
 
 // Gives byte i the value (i * 7 + 3) modulo 256.
 pub fn fill(buffer: &mut [u8]) {
@@ -20,6 +20,24 @@ pub fn fill_words(buffer: &mut [u64]) {
         w = std::num::wrapping_add_u64(w, 506381209866536711);
         i += 1;
     }
+}
+
+// The front of a room, as long as asked for; nothing where the room is shorter.
+pub fn front(room: &mut [u8], count: u32) -> &mut [u8] {
+    let length = count as usize;
+    if room.len() < length {
+        return &mut room[0..0];
+    }
+    &mut room[0..length]
+}
+
+// The same of a room of words.
+pub fn front_words(room: &mut [u64], count: u32) -> &mut [u64] {
+    let length = count as usize;
+    if room.len() < length {
+        return &mut room[0..0];
+    }
+    &mut room[0..length]
 }
 
 // One byte more of a digest.

@@ -14,6 +14,8 @@ pub use buffers::digest_after;
 pub use buffers::digest_words;
 pub use buffers::fill;
 pub use buffers::fill_words;
+pub use buffers::front;
+pub use buffers::front_words;
 pub use input::next_case;
 pub use input::room;
 pub use output::end_line;

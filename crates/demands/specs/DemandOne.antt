@@ -21,7 +21,7 @@ use Rattle.common.specs.Lists.{count}
 use Rattle.lookup.specs.declared.Part.{Part}
 use Rattle.line.specs.Layout.{lineBytes, fields}
 use Rattle.checks.specs.Limits.{maxRations}
-use Rattle.checks.specs.Refusals.{badLength, badForm, shortBuffer}
+use Rattle.checks.specs.Refusals.{badLength, badForm, shortBuffer, noPlacing}
 use Rattle.checks.specs.Sheet.{Sheet, sheetOf, sheetFrom, writeSheet}
 use Rattle.checks.specs.Checks.{fault, outside, valueFaults, faults}
 use Rattle.checks.specs.CallChecks.{bufferChecks, questionChecks, comparisonChecks, hallsChecks}
@@ -46,6 +46,7 @@ use Rattle.plan_order.specs.Order.{orderNumber}
 use Rattle.comparison.specs.Comparison.{compareRefusal, comparedOf}
 use Rattle.causes.specs.CauseCalls.{endingsOf, shortCauses, causesAnswer, causesAfter}
 use Rattle.halls.specs.Halls.{Hall, four, hallsFaults, nothing, outcomeOf, hallsAnswer}
+use Rattle.shares.specs.Shares.{shareProblem, shareRefusal, shareAnswer}
 use Rattle.program.specs.Program.{explanationOf}
 use Rattle.program.specs.Theorems.{program-front}
 use Rattle.program.specs.Theorems as Program
@@ -54,10 +55,12 @@ use Rattle.records.specs.Records.{recordSheet, recordFaults}
 use Rattle.demands.specs.Answers.{FirstOf, NotZero, ShortfallOf, YesFor, NoLineOf, PlanBuffer, PlacingBuffer, CausesListed, CausesBuffer, SheetBuffer, programText, whyText, practiceText, ProgramText}
 use Rattle.demands.specs.Outcome.{AloneIs}
 use Rattle.demands.specs.Halls.{hallIn, answerIn, problemIn, HallIs, HallAnswer}
+use Rattle.demands.specs.Shares.{CutIs, problemAt}
 use Rattle.demands.specs.AnswerLaws.{alone-is, first-of, numbered-one, numbered-compared, first-alone, buffer-alone, placing-alone, both-alone, first-asked, zero-unless, no-unless, shortfall-is, yes-for, sheet-buffer, room-sheet, write-room, read-first, read-nothing, records-checked, program-text}
 use Rattle.demands.specs.ComparisonLaws.{no-order}
 use Rattle.demands.specs.CausesLaws.{causes-listed, causes-buffer, causes-room, why-front, why-causes, why-refused}
 use Rattle.demands.specs.PracticeLaws.{practice-taken, practice-refused}
+use Rattle.demands.specs.SharesLaws.{cut-is, first-share, not-held, no-share, share-buffers, share-whole}
 use Rattle.demands.specs.HallsLaws.{first-halls, halls-kept, halls-answered, halls-earlier, halls-without, hall-alone, hall-is}
 
 pub record DemandOne : Type 0 where
@@ -113,6 +116,23 @@ pub record DemandOne : Type 0 where
   pub compare : (a b : List ℕ) → let r = comparedOf a b in
       FirstOf (comparisonChecks (faults a) (not (canBePlanned (alone (sheetOf a)))) (faults b) (not (canBePlanned (alone (sheetOf b))))) (r .number) (r .line)
       × (NotZero (r .number) → r .order ≡ orderNumber No)
+  -- Short rations: 10 after the checks of the sheet; 12 is not among them, and on any refusal the share is 0 ------------
+
+  -- what is planned is the sheet cut to the share answered, as `cut-is` says; `plan-share` of demand 3 says that it is
+  -- the greatest
+  pub plan-share : (b listing placing : List ℕ) → let short = shortPlan listing || shortPlacing placing in
+      let r = shareRefusal b short in let p = shareProblem (sheetOf b) in let a = shareAnswer r (sheetOf b) in
+      FirstOf (bufferChecks (faults b) short) (a .number) (a .line)
+      × ¬ (a .number ≡ noPlacing) × (NotZero (a .number) → a .share ≡ 0)
+      × PlanBuffer (problemAt b a) (a .number) (a .length) listing (listingAfter r (listingOf p) listing)
+      × PlacingBuffer (problemAt b a) (a .number) placing (placingAfter r (wordsFor p) placing)
+  -- where `plan-both` gives 0 the share is 100, and all else is as `plan-both` has it
+  pub share-whole : (b listing placing : List ℕ) → let short = shortPlan listing || shortPlacing placing in
+      let r = planRefusal b short in let p = alone (sheetOf b) in let a = listedAnswer r (listingOf p) in
+      let q = shareRefusal b short in let c = shareProblem (sheetOf b) in r .number ≡ 0 →
+      (shareAnswer q (sheetOf b) ≡ record { number = a .number; line = a .line; length = a .length; share = 100 })
+      × (listingAfter q (listingOf c) listing ≡ listingAfter r (listingOf p) listing)
+      × (placingAfter q (wordsFor c) placing ≡ placingAfter r (wordsFor p) placing)
   -- Halls: 14 before all sheets; then each hall has the checks of a planning call, under its own highs ------------
 
   -- 32 and 4 are the paper's numbers. With 14, and for a hall that is not there: zeros, and buffers as they were. A
@@ -188,6 +208,8 @@ pub record DemandOne : Type 0 where
   pub held-is : (s : Sheet) → let q = shownSet (alone s) in heldListing (alone s) ≡ heldText q (forced (demandsOf s) q) (count q * s .blowers)
   -- a hall: its rations, and in each slot the smaller of its own blowers and the limit less what earlier halls use
   pub hall-is : (limit : ℕ) (used : List ℕ) (h : Hall) → HallIs limit used h
+  -- a sheet cut to a share: the rations in their places, with volume × share / 100, rounded down
+  pub cut-is : (share : ℕ) (s : Sheet) → CutIs share s
 
 -- The theorem -------------------------------------------------------------------------------------
 
@@ -276,8 +298,13 @@ demand-one =
         halls-kept limit halls a b c d,
         halls-answered limit halls a b c d,
       );
+      plan-share = λ b listing placing.
+          let w = share-buffers b listing placing in
+          (first-share b listing placing, not-held b listing placing, no-share b listing placing, w .0, w .1);
+      share-whole = share-whole;
       halls-earlier = halls-earlier;
       halls-without = halls-without;
       hall-alone = hall-alone;
       hall-is = hall-is;
+      cut-is = cut-is;
     }

@@ -32,6 +32,8 @@ use Rattle.causes.specs.CauseCalls.{endingsOf, shortCauses, causesAnswer, cause
 use Rattle.causes.specs.ReadCauses.{entriesIn, writtenCauses}
 use Rattle.causes.specs.CauseAnswers.{room-causes}
 use Rattle.halls.specs.Halls.{Hall, four, hallProblem, usedBefore, outcomeOf, hallsAnswer}
+use Rattle.cuts.specs.Cuts.{cutSheet}
+use Rattle.shares.specs.Shares.{shareProblem, shareRefusal, shareAnswer}
 use Rattle.program.specs.Program.{explanationOf}
 use Rattle.program.specs.Theorems.{program-writes, program-front}
 use Rattle.records.specs.declared.Ration.{Ration}
@@ -40,10 +42,12 @@ use Rattle.demands.specs.Answers.{programText, whyText, practiceText}
 use Rattle.demands.specs.Outcome.{AloneIs, NoneSound, PlannedOrHeld, Outcome, placingIn, SamePlacing}
 use Rattle.demands.specs.Causes.{CausesShown}
 use Rattle.demands.specs.Halls.{hallIn, answerIn, problemIn, HallIs, busyIn}
+use Rattle.demands.specs.Shares.{CutIs, problemAt, writtenShare, GreatestShare}
 use Rattle.demands.specs.AnswerLaws.{bytes-in-range, records-in-range, alone-is}
 use Rattle.demands.specs.OutcomeLaws.{written-listing, outcome-of, marks-of, high-alone}
 use Rattle.demands.specs.PracticeLaws.{of-practice, practice-written, practice-taken}
 use Rattle.demands.specs.HallsLaws.{halls-outcome, hall-is, used-is, shown-past, within-limit}
+use Rattle.demands.specs.SharesLaws.{cut-is, share-outcome, share-greatest}
 use Rattle.demands.specs.ComparisonLaws.{comparison-held-iff}
 use Rattle.demands.specs.CausesLaws.{shown-causes, planned, call-shown, why-front, why-causes, why-refused}
 
@@ -99,6 +103,15 @@ pub record DemandThree : Type 0 where
       let shown : ℕ → ℕ = λ j. busyIn (hallIn hs j) (answerIn r j) (outcomeOf limit halls hs j .buffers .listing) t in
       ((i : ℕ) → i ≤ halls → getD (usedBefore limit hs i) t 0 ≡ sum i shown)
       × ((j : ℕ) → j < halls → sheetOf (hallIn hs j .bytes) .slots ≤ t → shown j ≡ 0) × (sum halls shown ≤ limit)
+  -- Short rations ---------------------------------------------------------------------------------
+
+  -- the plan is of the sheet cut to the share answered, and this is the greatest that has a sound placing
+  pub plan-share : (b listing placing : List ℕ) → faults b ≡ [] → planBytes ≤ length listing → placingWords ≤ length placing →
+      let r = shareRefusal b (shortPlan listing || shortPlacing placing) in let p = shareProblem (sheetOf b) in let a = shareAnswer r (sheetOf b) in
+      Outcome (problemAt b a) (a .number) (writtenShare a (listingAfter r (listingOf p) listing))
+      × SamePlacing (cutSheet (a .share) (sheetOf b)) (writtenShare a (listingAfter r (listingOf p) listing)) (placingAfter r (wordsFor p) placing)
+      × GreatestShare (sheetOf b) (a .share)
+  pub cut-is : (share : ℕ) (s : Sheet) → CutIs share s
   -- Rations lent as records -----------------------------------------------------------------------
 
   pub plan-rations : (slots blowers wake : ℕ) (rations : List Ration) (listing : List ℕ) → let s = recordSheet slots blowers wake rations in let p = alone s in
@@ -188,6 +201,10 @@ demand-three =
       plan-halls = halls-outcome;
       hall-is = hall-is;
       halls-used = λ limit halls a b c d z t k. (used-is limit halls a b c d z t k, shown-past limit halls a b c d z t, within-limit limit halls a b c d z t k);
+      plan-share = λ b listing placing formed l k.
+          let o = share-outcome b listing placing formed l k in
+          (o .0, o .1, share-greatest b listing placing formed l k);
+      cut-is = cut-is;
       plan-rations = λ slots blowers wake rations listing formed l.
           let g = records-in-range (recordSheet slots blowers wake rations) formed in
           let e = room-plan listing l in

@@ -37,6 +37,8 @@ use Rattle.causes.specs.CauseCalls.{endingsOf, shortCauses, causesAnswer, cause
 use Rattle.causes.specs.ReadCauses.{entriesIn, writtenCauses}
 use Rattle.causes.specs.CauseAnswers.{room-causes}
 use Rattle.halls.specs.Halls.{Hall, four, hallProblem, outcomeOf, hallsAnswer}
+use Rattle.cuts.specs.Cuts.{cutSheet}
+use Rattle.shares.specs.Shares.{shareProblem, shareRefusal, shareAnswer}
 use Rattle.program.specs.Program.{explanationOf}
 use Rattle.program.specs.Theorems.{program-writes, program-front}
 use Rattle.records.specs.declared.Ration.{Ration}
@@ -47,12 +49,14 @@ use Rattle.demands.specs.ByMethod.{HasPlacing, settled, runsOf, ChosenBy
 use Rattle.demands.specs.Comparison.{PlannedSheet, Answered, linesPlanned}
 use Rattle.demands.specs.Causes.{CausesByMethod}
 use Rattle.demands.specs.Halls.{hallIn, answerIn, problemIn, HallIs}
+use Rattle.demands.specs.Shares.{CutIs, problemAt, writtenShare}
 use Rattle.demands.specs.AnswerLaws.{bytes-in-range, records-in-range, alone-is}
 use Rattle.demands.specs.ByMethodLaws.{number-is, listed-by-method, marked-by-method, as-worded, runs-worded}
 use Rattle.demands.specs.ComparisonLaws.{comparison-number, comparison-listed, comparison-ordered, comparison-counts}
 use Rattle.demands.specs.CausesLaws.{by-method-causes, call-by-method, why-front, why-causes}
 use Rattle.demands.specs.PracticeLaws.{of-practice, practice-number, practice-written, practice-taken}
 use Rattle.demands.specs.HallsLaws.{halls-by-method, hall-is}
+use Rattle.demands.specs.SharesLaws.{cut-is, share-by-method}
 use Rattle.demands.specs.RoundTripLaws.{values-read, read-again, rations-read-again, values-again, rations-again}
 
 pub record DemandTwo : Type 0 where
@@ -93,6 +97,13 @@ pub record DemandTwo : Type 0 where
       faults (h .bytes) ≡ [] → HasPlacing p → planBytes ≤ length (h .buffers .listing) → placingWords ≤ length (h .buffers .placing) →
       (x .number ≡ 0) × ByMethod p (linesOf (written x (o .listing))) × ChosenByMethod p (placingIn (sheetOf (h .bytes)) (o .placing))
   pub hall-is : (limit : ℕ) (used : List ℕ) (h : Hall) → HallIs limit used h
+  -- a sheet cut to the share answered, which always has a placing: by the method. `plan-share` of demand 3 says that
+  -- the share is the greatest
+  pub plan-share : (b listing placing : List ℕ) → faults b ≡ [] → planBytes ≤ length listing → placingWords ≤ length placing →
+      let r = shareRefusal b (shortPlan listing || shortPlacing placing) in let p = shareProblem (sheetOf b) in let a = shareAnswer r (sheetOf b) in
+      (a .number ≡ 0) × ByMethod (problemAt b a) (linesOf (writtenShare a (listingAfter r (listingOf p) listing)))
+      × ChosenByMethod (problemAt b a) (placingIn (cutSheet (a .share) (sheetOf b)) (placingAfter r (wordsFor p) placing))
+  pub cut-is : (share : ℕ) (s : Sheet) → CutIs share s
   -- Planning rations lent as records --------------------------------------------------------------
 
   pub plan-rations : (slots blowers wake : ℕ) (rations : List Ration) (listing : List ℕ) → let s = recordSheet slots blowers wake rations in let p = alone s in
@@ -196,6 +207,8 @@ demand-two =
           (z, call-by-method formed _ g refl (shortCauses out) e z out);
       plan-halls = λ limit halls a b c d z i l formed has m k. halls-by-method limit halls a b c d z i l formed m k has;
       hall-is = hall-is;
+      plan-share = share-by-method;
+      cut-is = cut-is;
       plan-rations = λ slots blowers wake rations listing formed has l.
           let g = records-in-range (recordSheet slots blowers wake rations) formed in
           let e = room-plan listing l in

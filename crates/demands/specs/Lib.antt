@@ -13,6 +13,7 @@ pub mod ByMethod
 pub mod Comparison
 pub mod Causes
 pub mod Halls
+pub mod Shares
 -- Laws
 pub mod AnswerLaws
 pub mod OutcomeLaws
@@ -22,3 +23,4 @@ pub mod ComparisonLaws
 pub mod CausesLaws
 pub mod PracticeLaws
 pub mod HallsLaws
+pub mod SharesLaws

@@ -3,24 +3,6 @@
 // comes after a buffer counts as well.
 use crate::answers;
 
-// The front of a room, as long as asked for; nothing where the room is shorter.
-fn front(room: &mut [u8], count: u32) -> &mut [u8] {
-    let length = count as usize;
-    if room.len() < length {
-        return &mut room[0..0];
-    }
-    &mut room[0..length]
-}
-
-// The same of a room of words.
-fn front_words(room: &mut [u64], count: u32) -> &mut [u64] {
-    let length = count as usize;
-    if room.len() < length {
-        return &mut room[0..0];
-    }
-    &mut room[0..length]
-}
-
 // Plans the halls, each lent so many bytes and so many words.
 pub fn plan(
     limit: u32,
@@ -59,17 +41,17 @@ pub fn plan(
         limit,
         halls,
         sheet_1,
-        front(&mut listing_1, bytes_1),
-        front_words(&mut placing_1, words_1),
+        cases::front(&mut listing_1, bytes_1),
+        cases::front_words(&mut placing_1, words_1),
         sheet_2,
-        front(&mut listing_2, bytes_2),
-        front_words(&mut placing_2, words_2),
+        cases::front(&mut listing_2, bytes_2),
+        cases::front_words(&mut placing_2, words_2),
         sheet_3,
-        front(&mut listing_3, bytes_3),
-        front_words(&mut placing_3, words_3),
+        cases::front(&mut listing_3, bytes_3),
+        cases::front_words(&mut placing_3, words_3),
         sheet_4,
-        front(&mut listing_4, bytes_4),
-        front_words(&mut placing_4, words_4),
+        cases::front(&mut listing_4, bytes_4),
+        cases::front_words(&mut placing_4, words_4),
     );
     let first = r.first;
     let second = r.second;

@@ -15,3 +15,10 @@ pub fn write_digest(digest: u32) {
     cases::word(digest);
     cases::end_line();
 }
+
+// Writes the digests of both whole buffers and ends the line.
+pub fn write_digests(listing: &[u8], placing: &[u64]) {
+    cases::word(cases::digest(listing));
+    cases::word(cases::digest_words(placing));
+    cases::end_line();
+}

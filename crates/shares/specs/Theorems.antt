@@ -2,21 +2,27 @@
 -- smaller share can be and no greater one; and a sheet that can be planned as it is has share 100 and its own plan. Of
 -- the sheet of a share, a volume cut to 0 is no fault. Assumes nothing.
 use mathlib.Core.Path.{_≡_, sym, ap, ap₂, _∙_}
-use mathlib.Core.Bool.{true, false, false≢true}
+use mathlib.Core.Bool.{Bool, true, false, not, false≢true}
+use mathlib.Core.List.{List, _++_, append-nil}
 use Prim.Native.Nat.{ℕ, _≤_, _<_}
 use native.Mathlib.Decide.{decLt}
 use native.Mathlib.Omega.{arith}
 use lib.ListN.{length}
-use Rattle.checks.specs.Sheet.{Sheet}
+use Rattle.checks.specs.Refusals.{shortBuffer, noPlacing}
+use Rattle.checks.specs.Sheet.{Sheet, sheetOf}
+use Rattle.checks.specs.Checks.{fault, firstRefusal, faults}
 use Rattle.checks.specs.RangeLaws.{ValuesInRange}
+use Rattle.sheet.specs.OwnCheckLaws.{bytes-checked}
 use Rattle.schedules.specs.Schedules.{Schedule, feasible}
 use Rattle.schedules.specs.Demands.{noLow}
 use Rattle.cuts.specs.Cuts.{maxShare, cutSheet, hasPlacing, greatestShare}
 use Rattle.cuts.specs.ShareLaws.{cut-in-range, cut-whole-sheet}
 use Rattle.cuts.specs.Theorems.{share-most, greatest-possible, share-has, no-greater, whole-iff}
 use Rattle.planning.specs.Problem.{alone, MayPlace, ProblemInRange, canBePlanned}
+use Rattle.planning.specs.Planning.{planChecks}
+use Rattle.planning.specs.CallAnswers.{passed-held}
 use Rattle.planning.specs.AloneLaws.{left-alone, room-alone, may-alone, alone-in-range}
-use Rattle.shares.specs.Shares.{shareProblem}
+use Rattle.shares.specs.Shares.{shareProblem, shareRefusal}
 
 -- Any share -------------------------------------------------------------------------
 
@@ -62,3 +68,19 @@ module _ (s : Sheet) where
       go (yes l) = l
       go (no n) =
           absurd (false≢true (sym held ∙ planned-iff s ∙ whole-iff s .0 (omega (arith, share-most s))))
+
+-- The refusal -----------------------------------------------------------------------
+
+-- It is that of a planning call for the sheet of the greatest share: with 12 as a further check none is refused by it.
+pub refusal-as-planned : (b : List ℕ) (short : Bool) → shareRefusal b short ≡ firstRefusal (planChecks (faults b) short (shareProblem (sheetOf b)))
+unfolding shareRefusal
+refusal-as-planned b short =
+    ap (λ rest. firstRefusal (faults b ++ rest)) (sym (append-nil (fault shortBuffer 0 short)))
+    ∙ ap (λ can. firstRefusal (faults b ++ (fault shortBuffer 0 short ++ fault noPlacing 0 (not can)))) (sym (share-planned (sheetOf b)))
+
+-- 12 is never given
+pub never-held : (b : List ℕ) (short : Bool) → ¬ (shareRefusal b short .number ≡ noPlacing)
+never-held b short e =
+    let s = sheetOf b in
+    let h = passed-held (faults b) (bytes-checked b .of-sheet) short (canBePlanned (shareProblem s)) (ap (λ r. r .number) (sym (refusal-as-planned b short)) ∙ e) in
+    false≢true (sym (h .2) ∙ share-planned s)
