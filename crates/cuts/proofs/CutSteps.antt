@@ -17,7 +17,7 @@ use Rattle.sheet.specs.Calls.{accepted}
 use Rattle.sheet.specs.OwnChecks.{ReadFrom, ReadSheet}
 use Rattle.sheet.specs.OwnCheckLaws.{read-is, read-values}
 use Rattle.schedules.specs.DemandLaws.{noJob, length-demandsOf, volumeOf-demandsOf, demandsOf-inRange}
-use Rattle.cuts.specs.Cuts.{maxShare, cutVolume, cutJob, cutSheet}
+use Rattle.cuts.specs.Cuts.{cutVolume, cutJob, cutSheet}
 use Rattle.cuts.specs.Contracts.{CutFrom}
 
 -- ---- rations of which the first n are cut

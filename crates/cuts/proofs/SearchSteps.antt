@@ -1,12 +1,14 @@
 -- How the question about a share is asked, what marked slots show of a share, and how the two ends between which the
 -- greatest share lies are moved. Assumes nothing.
-use mathlib.Core.Path.{_≡_, refl, sym, ap, ap₂, _∙_, subst}
+use mathlib.Core.Path.{_≡_, sym, ap, ap₂, _∙_, subst}
 use mathlib.Core.Bool.{Bool, true, false}
 use mathlib.Core.List.{List, []}
-use Prim.Native.Nat.{ℕ, suc, _+_, _≤_, _<_}
+use Prim.Native.Nat.{ℕ, zero, suc, _+_, _-_, _*_, _/_, _%_, _^_, _≤_, _<_}
+use native.Mathlib.Nat.{pow-zero, pow-succ', div-le-of-le-mul, div-mul-le-self}
 use native.Mathlib.Omega.{arith}
 use lib.IntN.{pos}
-use lib.ListN.{length, replicate, length-map}
+use lib.ListN.{length, replicate}
+use lib.Pow.{pow-pos, pow-mono, shl-exact}
 use lib.Signed.{ltZ}
 use Rattle.common.specs.Buffers.{padded}
 use Rattle.checks.specs.declared.Refusal.{Refusal}
@@ -15,10 +17,7 @@ use Rattle.checks.specs.Sheet.{Sheet}
 use Rattle.sheet.specs.declared.Reading.{Reading}
 use Rattle.sheet.specs.Calls.{accepted}
 use Rattle.sheet.specs.OwnChecks.{ReadFrom, SomeReading, ReadSheet}
-use Rattle.schedules.specs.Slots.{window}
 use Rattle.schedules.specs.Demands.{demandsOf, noLow, fullHigh}
-use Rattle.schedules.specs.Tabulate.{getD-map-below}
-use Rattle.schedules.specs.DemandLaws.{noJob, length-demandsOf, windowOf-demandsOf}
 use Rattle.schedules.specs.Schedules.{windowOf, feasible}
 use Rattle.placing.specs.Rations.{demandsFrom, Rations}
 use Rattle.placing.specs.Words.{WindowWords, VolumeBytes}
@@ -27,27 +26,14 @@ use Rattle.placing.specs.HeldSteps.{full-words, length-full}
 use Rattle.placing.specs.Represents.{SomeDemands, HighWords, CanBegin, Begun}
 use Rattle.placing.specs.FeasibilitySteps.{demand-words, ration-words, can-begin}
 use Rattle.placing.specs.ReadLaws.{SheetRead, sheet-read}
-use Rattle.cuts.specs.Cuts.{maxShare, cutJob, cutSheet, hasPlacing}
+use Rattle.cuts.specs.Cuts.{maxShare, cutSheet, hasPlacing}
 use Rattle.questions.specs.declared.ShortfallAnswer.{ShortfallAnswer}
 use Rattle.questions.specs.ShortfallParts.{ReadShortfall}
 use Rattle.questions.specs.CallLaws.{lacking-infeasible}
-use Rattle.cuts.specs.Contracts.{CutFrom, CanAskShares, ShareAnswered, ReadNone, Between, ReadBetween, ShareFound}
-use Rattle.cuts.specs.ShareLaws.{none-from, between-begin, between-up, between-down, between-end}
+use Rattle.cuts.specs.Contracts.{CutFrom, CanAskShares, ShareAnswered, ReadPossible, ReadNone, Between, ReadBetween, Reaches, ShareFound}
+use Rattle.cuts.specs.ShareLaws.{none-from, between-up, between-down, between-end}
+use Rattle.cuts.specs.CutDemands.{windows-cut, length-cut}
 use Rattle.cuts.specs.ReadLaws.{cut-read}
-
--- the windows of a cut sheet are those of the sheet
-windows-cut : (share : ℕ) (s : Sheet) (j : ℕ) → j < length (demandsOf s) → windowOf (demandsOf (cutSheet share s)) j ≡ windowOf (demandsOf s) j
-unfolding cutSheet cutJob
-windows-cut share s j l =
-    let k : j < length (s .jobs) = rw (length-demandsOf s) at l in
-    let e = getD-map-below (cutJob share) (s .jobs) j noJob noJob k in
-    windowOf-demandsOf (cutSheet share s) j (rw (length-map (s .jobs) (cutJob share)) k)
-    ∙ ap₂ (window (s .slots)) (ap (λ x. x .release) e) (ap (λ x. x .deadline) e)
-    ∙ sym (windowOf-demandsOf s j k)
-
-length-cut : (share : ℕ) (s : Sheet) → length (demandsOf (cutSheet share s)) ≡ length (demandsOf s)
-unfolding cutSheet
-length-cut share s = length-demandsOf (cutSheet share s) ∙ length-map (s .jobs) (cutJob share) ∙ sym (length-demandsOf s)
 
 -- ---- one question
 
@@ -144,8 +130,8 @@ module _ {r : Reading} (sheet : ReadSheet r) where
   pub none-beyond : ReadNone r (maxShare + 1)
   none-beyond own s h share l k = absurd (omega arith)
 
-  pub ends-begin : {high : ℕ} → 0 < high → high ≤ maxShare + 1 → ReadNone r high → ReadBetween r 0 high
-  ends-begin l k n own s h = between-begin s l (omega arith) (n own s h)
+  pub ends-begin : {low high : ℕ} → low < high → high ≤ maxShare + 1 → ReadPossible r low → ReadNone r high → ReadBetween r low high
+  ends-begin l k p n own s h = record { order = l; most = omega arith; possible = p own s h; none = n own s h }
 
   module _ {low high : ℕ} (b : ReadBetween r low high) where
     here : Between (sheet .some .sheet) low high
@@ -169,3 +155,29 @@ module _ {r : Reading} (sheet : ReadSheet r) where
 
     pub ends-met : high ≤ suc low → ShareFound r low
     ends-met l own s h = between-end s (b own s h) l
+
+-- ---- the questions left
+
+-- the next power of two below, as code shifts it
+shifted : (q : ℕ) → q ≤ 7 → (1 * 2 ^ q) % 2 ^ 32 ≡ 2 ^ q
+shifted q l = shl-exact {a = 1} 1 q 32 (omega arith) (omega arith) ∙ omega arith
+
+-- while more than one share is left, so is a question, and one less can halve what it leaves
+pub question-left : (left low : ℕ) {high : ℕ} → left ≤ 7 → low + 1 < high → high ≤ low + 2 ^ left
+    → (1 ≤ left) × Reaches ((1 * 2 ^ (left - 1)) % 2 ^ 32) low high × ((1 * 2 ^ (left - 1)) % 2 ^ 32 ≡ 2 ^ (left - 1))
+question-left left low {high = high} l k m =
+    let o = some left m in
+    let e = shifted (left - 1) (omega arith) in
+    let next : left ≡ suc (left - 1) = omega arith in
+    let p = ap (λ q. 2 ^ q) next ∙ pow-succ' 2 (left - 1) in
+    (o, (omega (arith, e, pow-pos (left - 1)), omega (arith, e, pow-mono {i = left - 1} {j = 6} (omega arith)), omega (arith, e, p)), e)
+  where
+    some : (q : ℕ) → high ≤ low + 2 ^ q → 1 ≤ q
+    some zero h = absurd (omega (arith, pow-zero 2))
+    some (suc q) h = omega arith
+
+-- ---- evenly spread
+
+-- the share of the room that a greatest density leaves
+pub share-of : (room most : ℕ) → room < most → (maxShare * room / most ≤ maxShare) × (maxShare * room / most * most ≤ maxShare * room)
+share-of room most l = (div-le-of-le-mul most {m = maxShare * room} {n = maxShare} (omega arith), div-mul-le-self (maxShare * room) most)

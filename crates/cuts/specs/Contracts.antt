@@ -3,7 +3,7 @@
 use mathlib.Core.Path.{_≡_}
 use mathlib.Core.Bool.{Bool, true, false}
 use mathlib.Core.List.{List}
-use Prim.Native.Nat.{ℕ, suc, _≤_, _<_}
+use Prim.Native.Nat.{ℕ, suc, _+_, _*_, _≤_, _<_}
 use lib.ListN.{length, replicate}
 use Rattle.common.specs.Buffers.{padded}
 use Rattle.checks.specs.declared.Refusal.{Refusal}
@@ -35,6 +35,10 @@ pub record ShareAnswered (share : ℕ) (r : Reading) (can : Bool) (marks : List 
 
 -- The greatest share ----------------------------------------------------------------
 
+-- this share has a sound placing
+abbrev pub ReadPossible : Reading → (share : ℕ) → Type 0
+ReadPossible r share = (own : List Refusal) (s : Sheet) → ReadFrom own s r → hasPlacing (cutSheet share s) ≡ true
+
 -- no share from this one on has a sound placing
 abbrev pub NoneFrom : Sheet → ℕ → Type 0
 NoneFrom s from = (share : ℕ) → from ≤ share → share ≤ maxShare → hasPlacing (cutSheet share s) ≡ false
@@ -51,6 +55,10 @@ pub record Between (s : Sheet) (low high : ℕ) : Type 0 where
 
 abbrev pub ReadBetween : Reading → (low high : ℕ) → Type 0
 ReadBetween r low high = (own : List Refusal) (s : Sheet) → ReadFrom own s r → Between s low high
+
+-- what is between two ends is at most twice what is to be left between them
+abbrev pub Reaches : (reach low high : ℕ) → Type 0
+Reaches reach low high = (1 ≤ reach) × (reach ≤ maxShare) × (high ≤ low + 2 * reach)
 
 abbrev pub ShareFound : Reading → (share : ℕ) → Type 0
 ShareFound r share = (own : List Refusal) (s : Sheet) → ReadFrom own s r → share ≡ greatestShare s

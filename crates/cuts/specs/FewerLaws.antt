@@ -22,7 +22,7 @@ none-asked (suc n) (true ∷ q) = omega (arith, none-asked n q)
 none-asked (suc n) (false ∷ q) = omega (arith, none-asked n q)
 
 -- where into no set more is forced than its capacity, a sound placing exists
-within-capacity : {slots : ℕ} {ds : List Demand} → Windows slots ds → (high : List ℕ) → length high ≡ slots
+pub within-capacity : {slots : ℕ} {ds : List Demand} → Windows slots ds → (high : List ℕ) → length high ≡ slots
     → ((q : Slots) → length q ≡ slots → forced ds q ≤ capacity high q) → feasible slots ds (replicate slots 0) high ≡ true
 unfolding shortfall excess
 within-capacity {slots} {ds} w high h fits =

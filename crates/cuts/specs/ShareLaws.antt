@@ -143,9 +143,6 @@ module _ (s : Sheet) where
   none-from share e above l k =
       false-of-not-true (hasPlacing (cutSheet above s)) (λ p. false≢true (sym e ∙ smaller-share s share above l p))
 
-  pub between-begin : {high : ℕ} → 0 < high → high ≤ suc maxShare → NoneFrom s high → Between s 0 high
-  between-begin l k n = record { order = l; most = k; possible = share-zero s; none = n }
-
   module _ {low high : ℕ} (b : Between s low high) (share : ℕ) where
     pub between-up : share < high → hasPlacing (cutSheet share s) ≡ true → Between s share high
     between-up l e = record { order = l; most = b .most; possible = e; none = b .none }

@@ -1,13 +1,11 @@
 -- What holds of shares (request 111): of the cut volumes, and of the greatest share for which a sound placing exists.
 -- Assumes nothing.
-use mathlib.Core.Path.{_≡_, refl, sym, ap, _∙_}
+use mathlib.Core.Path.{_≡_, sym, ap, _∙_}
 use mathlib.Core.Logic.{_↔_}
-use mathlib.Core.Bool.{Bool, true, false, false≢true}
-use mathlib.Core.List.{List}
+use mathlib.Core.Bool.{Bool, true}
 use Prim.Native.Nat.{ℕ, _+_, _*_, _≤_, _<_}
 use native.Mathlib.Omega.{arith}
 use lib.ListN.{length, getD, length-map, length-replicate}
-use Rattle.common.specs.Tests.{false-of-not-true}
 use Rattle.checks.specs.Sheet.{Job, Sheet}
 use Rattle.checks.specs.RangeLaws.{ValuesInRange}
 use Rattle.schedules.specs.Schedules.{Schedule, Sound}

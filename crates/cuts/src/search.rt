@@ -1,23 +1,28 @@
-// The greatest share that has a sound placing, from above. It is looked for between two shares, one that has a placing
-// and one from which on none has, and what is asked about is the greatest that is left between them. Where the answer
-// is no, the search leaves the slots that show why, and what smaller shares force into these slots tells how many of
-// those have none either, without another question.
+// The greatest share that has a sound placing. It is looked for between two shares, one that has a placing and one from
+// which on none has. Before anything is asked, rations spread evenly give the first, and the sum of the volumes the
+// second. What is asked about is the greatest share that is left between them, as long as the questions left could halve
+// what remains if the answer is no. Then the search leaves the slots that show why, and what smaller shares force into
+// these slots tells how many of those have none either, without another question.
 use crate::Ends;
 use crate::cutting;
+use densities::SCALE;
 use placing::begin;
 use placing::held;
 use placing::windows;
 use sheet::Reading;
 ghost use mathlib.Core.Path.{_≡_};
 ghost use mathlib.Core.Bool.{true};
-ghost use Prim.Native.Nat.{_+_, _-_, _≤_, _<_};
+ghost use Prim.Native.Nat.{_+_, _-_, _≤_, _<_, min};
 ghost use lib.IntN.{pos};
 ghost use lib.Signed.{ltZ};
 ghost use Rattle.sheet.specs.OwnChecks.{ReadSheet};
 ghost use Rattle.cuts.specs.Cuts.{maxShare};
-ghost use Rattle.cuts.specs.Contracts.{CanAskShares, ShareAnswered, ReadNone, ReadBetween, ShareFound};
+ghost use Rattle.cuts.specs.Contracts.{CanAskShares, ShareAnswered, ReadPossible, ReadNone, ReadBetween, Reaches, ShareFound};
 
 const MAX_SHARE: u32 = 100;
+
+// Halving takes no more questions: 2 to this power is more than 101.
+const QUESTIONS: u32 = 7;
 
 // Whether the sheet cut to a share has a sound placing; where it has none, the marks are left on slots that show why.
 // `words` has the sheet's windows, which no share changes, and `highs` its blowers in each slot.
@@ -94,13 +99,45 @@ fn least_short(low: u32, high: u32, sheet: Reading, marks: &[u8]) -> u32
     most
 }
 
-// Asks about the greatest share below `high`, and moves one of the two ends: `low` to it where it has a placing, `high`
-// below it where it has none, as far as the slots that show it allow.
-fn narrow(low: u32, high: u32, sheet: Reading, words: &[u64; 96], highs: &[u8; 96]) -> Ends
-    requires { ⌜ CanAskShares sheet (now words) (now highs) × ReadBetween sheet low high × (low + 1 < high) ⌝ }
-    ensures { λ r. ⌜ ReadBetween sheet (r .low) (r .high) × (r .high - r .low < high - low) ⌝ }
+// A share that has a sound placing for sure: as great a part of the blowers' room as the rations need where, spread
+// evenly, they need most.
+fn spread_share(sheet: Reading) -> u32
+    requires { ⌜ ReadSheet sheet ⌝ }
+    ensures { λ r. ⌜ ReadPossible sheet r × (r ≤ maxShare) ⌝ }
 {
-    let share = high - 1;
+    let numbers = sheet.numbers;
+    let most = densities::greatest_density(sheet.rations as usize, &numbers);
+    let room = SCALE * sheet.blowers;
+    if most <= room {
+        return MAX_SHARE;
+    }
+    MAX_SHARE * room / most
+}
+
+// The share to ask about: the greatest below `high` that is at most `reach` above `low`.
+fn asked(low: u32, high: u32, reach: u32) -> u32
+    requires { ⌜ (low < high) × (high ≤ maxShare + 1) × (reach ≤ maxShare) ⌝ }
+    ensures { λ r. ⌜ r ≡ min (high - 1) (low + reach) ⌝ }
+{
+    let most = high - 1;
+    let far = low + reach;
+    if most < far { most } else { far }
+}
+
+// Asks one question, and moves one of the two ends: `low` to the share asked about where it has a placing, `high` to it
+// or below where it has none, as far as the slots that show it allow. What is left between them is at most `reach`.
+fn narrow(
+    low: u32,
+    high: u32,
+    reach: u32,
+    sheet: Reading,
+    words: &[u64; 96],
+    highs: &[u8; 96],
+) -> Ends
+    requires { ⌜ CanAskShares sheet (now words) (now highs) × ReadBetween sheet low high × (low + 1 < high) × Reaches reach low high ⌝ }
+    ensures { λ r. ⌜ ReadBetween sheet (r .low) (r .high) × (r .high - r .low ≤ reach) ⌝ }
+{
+    let share = asked(low, high, reach);
     let mut marks = [0u8; 96];
     if can_share(share, sheet, words, highs, &mut marks) {
         return Ends { low: share, high };
@@ -112,8 +149,7 @@ fn narrow(low: u32, high: u32, sheet: Reading, words: &[u64; 96], highs: &[u8; 9
     }
 }
 
-// The greatest share for which the cut sheet has a sound placing. No share is asked about of which all slots together
-// show that it has none, by the sum of the volumes. Most sheets take one or two questions.
+// The greatest share for which the cut sheet has a sound placing, with at most seven questions.
 pub fn greatest_share(sheet: Reading) -> u32
     requires { ⌜ ReadSheet sheet ⌝ }
     ensures { λ r. ⌜ ShareFound sheet r ⌝ }
@@ -125,10 +161,12 @@ pub fn greatest_share(sheet: Reading) -> u32
     let slots = sheet.slots as usize;
     held::set_highs(&mut highs, slots, sheet.blowers as u8);
     let all = [1u8; 96];
-    let mut low = 0;
+    let mut low = spread_share(sheet);
     let mut high = least_short(low, MAX_SHARE + 1, sheet, &all[0..slots]);
+    let mut left = QUESTIONS;
     while low + 1 < high {
-        let ends = narrow(low, high, sheet, &words, &highs);
+        left -= 1;
+        let ends = narrow(low, high, 1 << left, sheet, &words, &highs);
         low = ends.low;
         high = ends.high;
     }

@@ -1,28 +1,31 @@
 -- The days of 'Days at the edge' as one table: a question about a sheet's text, beside what document 01 says, and
--- requests 101 to 110 where they change that or say more. `answer` gives the answer of the definitions; a plan's
+-- requests 101 to 111 where they change that or say more. `answer` gives the answer of the definitions; a plan's
 -- numbers are read off the program's whole output. Assumes nothing.
 use mathlib.Core.Path.{_≡_, refl}
-use mathlib.Core.Bool.{Bool, false}
+use mathlib.Core.Bool.{Bool, false, _||_}
 use mathlib.Core.List.{List, [], _∷_, map}
 use Prim.Native.Nat.{ℕ}
 use Prim.Native.String.{String}
 use lib.IntN.{ℤ, pos, negsuc}
-use lib.ListN.{length, replicate}
+use lib.ListN.{length, take, replicate}
 use Rattle.common.specs.Lists.{range, flatMap}
+use Rattle.checks.specs.declared.Refusal.{Refusal}
 use Rattle.checks.specs.Sheet.{sheetOf}
 use Rattle.lookup.specs.LookUp.{tankLines, lookUp}
 use Rattle.questions.specs.Text.{text}
 use Rattle.questions.specs.Calls.{shortfallOf, boundsOf}
 use Rattle.plan_lines.specs.Sizes.{planBytes, placingWords}
 use Rattle.plan_lines.specs.Lines.{Line, line}
-use Rattle.planning.specs.Problem.{alone, countsOf, wordsFor}
+use Rattle.planning.specs.Problem.{alone, countsOf, listingOf, wordsFor}
+use Rattle.planning.specs.Planning.{shortPlan, shortPlacing, listingAfter, placingAfter}
 use Rattle.planning.specs.ReadListing.{written, linesOf, headLine, stretchPart, feedPart, billOn}
 use Rattle.program.specs.Program.{output, explanation, seedOutput}
 use Rattle.comparison.specs.Comparison.{comparedOf}
 use Rattle.halls.specs.declared.HallsPlanned.{HallsPlanned}
 use Rattle.halls.specs.Halls.{Hall, lent, outcomeOf, hallsAnswer}
+use Rattle.shares.specs.Shares.{shareProblem, shareRefusal, shareAnswer}
 use Rattle.demands.specs.Halls.{hallIn, answerIn, busyIn}
-use Rattle.demands.specs.Meanings.{listings, placings, comparisons, causes, practices, halls}
+use Rattle.demands.specs.Meanings.{listings, placings, comparisons, causes, practices, halls, shares}
 
 -- Questions and answers -------------------------------------------------------------
 
@@ -61,6 +64,11 @@ pub data Question : Type 0 where
   hallCountsFor : (limit : ℕ) → List Sheet → (i slots : ℕ) → Question
   -- the text in the plan buffer of hall i
   hallTextFor : (limit : ℕ) → List Sheet → (i : ℕ) → Question
+  -- number, line, length and share of the call that cuts rations, lent so many bytes and words
+  shareFor : Sheet → (planBuffer placingBuffer : ℕ) → Question
+  -- the text in its plan buffer, and the words of its placing buffer, where both are long enough
+  shareTextFor : Sheet → Question
+  sharePlacingFor : Sheet → Question
 
 pub data Answer : Type 0 where
   bytes : List ℕ → Answer
@@ -85,6 +93,10 @@ hallsAnswered limit sheets = hallsAnswer limit (length sheets) (hallsOf sheets)
 abbrev hallListing : (limit : ℕ) → List Sheet → (i : ℕ) → List ℕ
 hallListing limit sheets i = outcomeOf limit (length sheets) (hallsOf sheets) i .buffers .listing
 
+-- what the call that cuts rations is refused by, lent buffers that are long enough
+abbrev shareRefused : Sheet → Refusal
+shareRefused s = shareRefusal (text s) (shortPlan (replicate planBytes 0) || shortPlacing (replicate placingWords 0))
+
 -- what the definitions answer
 abbrev pub answer : Question → Answer
 answer (outputFor s) = bytes (output (text s))
@@ -107,6 +119,15 @@ answer (hallsFor limit sheets) =
 answer (hallCountsFor limit sheets i slots) =
     numbers (map (busyIn (hallIn (hallsOf sheets) i) (answerIn (hallsAnswered limit sheets) i) (hallListing limit sheets i)) (range 0 slots))
 answer (hallTextFor limit sheets i) = bytes (written (answerIn (hallsAnswered limit sheets) i) (hallListing limit sheets i))
+answer (shareFor s planBuffer placingBuffer) =
+    let r = shareRefusal (text s) (shortPlan (replicate planBuffer 0) || shortPlacing (replicate placingBuffer 0)) in
+    let a = shareAnswer r (sheetOf (text s)) in
+    numbers (a .number ∷ a .line ∷ a .length ∷ a .share ∷ [])
+answer (shareTextFor s) =
+    let r = shareRefused s in
+    let a = shareAnswer r (sheetOf (text s)) in
+    bytes (take (a .length) (listingAfter r (listingOf (shareProblem (sheetOf (text s)))) (replicate planBytes 0)))
+answer (sharePlacingFor s) = numbers (placingAfter (shareRefused s) (wordsFor (shareProblem (sheetOf (text s)))) (replicate placingWords 0))
 
 -- A row: the question, and the answer that the papers state or that follows from them.
 pub record Day : Type 0 where
@@ -502,3 +523,53 @@ columnDays =
 pub column-days-as-stated : AsStated columnDays
 unfolding listings tankLines lookUp
 column-days-as-stated = refl
+
+-- Short rations (request 111) --------------------------------------------------------------
+
+-- two tanks with all three slots each, and three with both slots; a volume of 1 before one of 2, in two slots
+abbrev threeEach : Sheet
+threeEach = "     3     1     1     2" ∷ "     1     1     3     3" ∷ "     2     1     3     3" ∷ []
+
+abbrev twoEach : Sheet
+twoEach = "     2     1     1     3" ∷ "     1     1     2     2" ∷ "     2     1     2     2" ∷ "     3     1     2     2" ∷ []
+
+abbrev oneBeforeTwo : Sheet
+oneBeforeTwo = "     2     1     1     2" ∷ "     7     1     1     1" ∷ "     8     1     2     2" ∷ []
+
+-- The first sheet can be planned as it is: share 100 and its own listing. The held day: 99 hundredths of 2 are 1,
+-- rounded down, and two feedings fit; rounded to the nearest they would be 2, as on the sheet. 66 hundredths of 3 are
+-- 1, and 67 are 2: four feedings are too many for three slots. Half of 2 is 1, and three are too many for two slots:
+-- at 49 nothing is fed. At 99 a volume of 1 is cut to 0, and the ration keeps its place on the sheet: that of tank 8 is
+-- still the second, with bit 1, and one feeding of it is left, in slot 2. The listing has no line for the share. A
+-- refused sheet has share 0, and so has a short buffer, either one; the sheet is looked at first.
+abbrev pub shareDays : List Day
+shareDays =
+    day (shareFor listed 38455 96) (numbers (0 ∷ 0 ∷ 280 ∷ 100 ∷ []))
+    ∷ day (sharePlacingFor listed) (numbers (1 ∷ 1 ∷ 6 ∷ 2 ∷ replicate 92 0))
+    ∷ day (shareFor held 38455 96) (numbers (0 ∷ 0 ∷ 155 ∷ 99 ∷ []))
+    ∷ day (shareTextFor held)
+    (bytes
+    (text
+    ("PLAN"
+    ∷ "     3     1     2     2"
+    ∷ "     1     1     1     0"
+    ∷ "     1     2     3     2"
+    ∷ "     2     1     1     1"
+    ∷ "     3     1     2     1"
+    ∷ "     0     5     0     0" ∷ [])))
+    ∷ day (shareFor threeEach 38455 96) (numbers (0 ∷ 0 ∷ 155 ∷ 66 ∷ []))
+    ∷ day (shareFor twoEach 38455 96) (numbers (0 ∷ 0 ∷ 80 ∷ 49 ∷ []))
+    ∷ day (shareFor twoInOne 38455 96) (numbers (0 ∷ 0 ∷ 80 ∷ 99 ∷ []))
+    ∷ day (shareTextFor twoInOne) (bytes (text ("PLAN" ∷ "     0     0     1     0" ∷ "     1     1     1     0" ∷ "     0     0     0     0" ∷ [])))
+    ∷ day (sharePlacingFor twoInOne) (numbers (replicate 96 0))
+    ∷ day (shareFor oneBeforeTwo 38455 96) (numbers (0 ∷ 0 ∷ 130 ∷ 99 ∷ []))
+    ∷ day (sharePlacingFor oneBeforeTwo) (numbers (0 ∷ 2 ∷ replicate 94 0))
+    ∷ day (shareFor ("    97     1     0     0" ∷ []) 38455 96) (numbers (3 ∷ 1 ∷ 0 ∷ 0 ∷ []))
+    ∷ day (shareFor [] 38454 95) (numbers (1 ∷ 0 ∷ 0 ∷ 0 ∷ []))
+    ∷ day (shareFor held 38454 96) (numbers (10 ∷ 0 ∷ 0 ∷ 0 ∷ []))
+    ∷ day (shareFor listed 38455 95) (numbers (10 ∷ 0 ∷ 0 ∷ 0 ∷ []))
+    ∷ []
+
+pub share-days-as-stated : AsStated shareDays
+unfolding shares
+share-days-as-stated = refl

@@ -12,7 +12,7 @@ use Rattle.bill.specs.Bill.{rates, hourOf, rateOf, onRate, onCharge, startCharg
 use Rattle.plan_lines.specs.Lines.{stretchLine, blowerLines, stretchLines, partAt, fedIn, feedLine, slotLines, feedLines, billLine, planLines, membersFrom, memberLines, heldLines}
 use Rattle.plan_lines.specs.Text.{writeLines, planText, heldText, refusalText}
 use Rattle.plan_lines.specs.PlacingForms.{binary, wordOf, wordsOf}
-use Rattle.planning.specs.Planning.{planRefusal, shortPlan, shortPlacing, writes, listedAnswer, listingAfter, busyAfter}
+use Rattle.planning.specs.Planning.{planRefusal, shortPlan, shortPlacing, writes, listedAnswer, listingAfter, placingAfter, busyAfter}
 use Rattle.schedules.specs.Rest.{restDemands, restHigh, together, noFeedings}
 use Rattle.planning.specs.Problem.{left, room, canBePlanned, settledCounts, feedingsOf, countsOf, shownSet, planWith, listingOf, wordsFor}
 use Rattle.planning.specs.ReadListing.{lineIn, linesIn, linesOf, headLine, slotSet, stretchPart, feedPart, billOn, ofMeal, placingOn}
@@ -27,6 +27,8 @@ use Rattle.checks.specs.Sheet.{writeJob, writeSheet}
 use Rattle.practice.specs.Practice.{nextSeed, seedAfter, draw, drawnJob, practiceJob, practiceSheet, faultySeed, seedIn}
 use Rattle.hall_uses.specs.Uses.{hallHigh}
 use Rattle.halls.specs.Halls.{hallProblem, shortHall, hallRefusal, usedBy, usedAfter, hallOutcome, hallsInOrder, usedByAll, hallsFaults, hallsRefusal, outcomes, outcomeOf, hallsAnswer}
+use Rattle.cuts.specs.Cuts.{cutVolume, cutJob, cutSheet, hasPlacing, greatestShare}
+use Rattle.shares.specs.Shares.{shareProblem, shareRefusal, shareAnswer}
 use Rattle.program.specs.Program.{output, explanation, seedOutput}
 use Rattle.demands.specs.Halls.{busyIn}
 
@@ -64,3 +66,8 @@ practices = tt
 unfoldable pub halls : Unit {0}
 unfolding listings over shortPlan shortPlacing listedAnswer listingAfter busyAfter hallHigh hallProblem shortHall hallRefusal usedBy usedAfter hallOutcome hallsInOrder usedByAll hallsFaults hallsRefusal outcomes outcomeOf hallsAnswer slotSet ofMeal placingOn busyIn
 halls = tt
+
+-- from a sheet to its greatest share and the plan of the cut sheet
+unfoldable pub shares : Unit {0}
+unfolding placings over shortPlan shortPlacing listingAfter placingAfter cutVolume cutJob cutSheet hasPlacing greatestShare shareProblem shareRefusal shareAnswer
+shares = tt

@@ -17,19 +17,19 @@ use Rattle.checks.specs.Limits.{maxSlots, maxRations}
 use Rattle.theory.specs.SumsOver.{one, pick}
 use Rattle.schedules.specs.Slots.{has, window}
 use Rattle.placing.specs.Rations.{releaseAt, deadlineAt, volumeAt, demandsFrom, Rations}
-use Rattle.placing.specs.Words.{WindowWords, VolumeBytes, inWindow, CanMark, Marked}
+use Rattle.placing.specs.Words.{WindowWords, VolumeBytes, inWindow, CanMark, Added, Marked}
 use Rattle.placing.specs.RationLaws.{length-demandsFrom, windowOf-demandsFrom, volumeOf-demandsFrom}
 use Rattle.common.specs.FillLaws.{getD-zeros, FilledTo}
 use Rattle.schedules.specs.WindowLaws.{has-window}
 
 -- One window --------------------------------------------------------------------
 
--- the slots of the window before slot t are marked
-pub record MarkedTo (j release deadline t : ℕ) (W W′ : List ℕ) : Type 0 where
+-- the slots of the window before slot t have x more
+pub record AddedTo (x release deadline t : ℕ) (W W′ : List ℕ) : Type 0 where
   pub from : release ≤ t + 1
   pub to : t ≤ deadline
   pub long : length W′ ≡ maxSlots
-  pub words : (u : ℕ) → getD W′ u 0 ≡ getD W u 0 + pick (leb release (suc u) && ltb u t) (2 ^ j)
+  pub words : (u : ℕ) → getD W′ u 0 ≡ getD W u 0 + pick (leb release (suc u) && ltb u t) x
 
 pick-false : (b : Bool) (x y : ℕ) → b ≡ false → x ≡ x + pick b y
 pick-false b x y e = rw e (sym (add-zero x))
@@ -38,55 +38,51 @@ and-second-false : (a : Bool) {b : Bool} → (a ≡ true → b ≡ false) → (a
 and-second-false true h = h refl
 and-second-false false h = refl
 
-module _ (W : List ℕ) (j release deadline : ℕ) (h : CanMark W j release deadline) where
-  pub mark-begin : MarkedTo j release deadline (release - 1) W W
-  mark-begin =
+module _ (W : List ℕ) (x release deadline : ℕ) (day : length W ≡ maxSlots) (order : release ≤ deadline) (last : deadline ≤ maxSlots) where
+  pub add-begin : AddedTo x release deadline (release - 1) W W
+  add-begin =
       record {
         from = omega arith;
-        to = omega (arith, h .order);
-        long = h .long;
+        to = omega (arith, order);
+        long = day;
         words = λ u.
-            pick-false (leb release (suc u) && ltb u (release - 1)) (getD W u 0) (2 ^ j)
+            pick-false (leb release (suc u) && ltb u (release - 1)) (getD W u 0) x
             (and-second-false (leb release (suc u)) (λ e. le-ltb u (release - 1) (omega (arith, leb-true release (suc u) e))));
       }
 
-  module _ (t : ℕ) (W′ : List ℕ) (m : MarkedTo j release deadline t W W′) where
-    module _ (l : t < deadline) where
-      here : getD W′ t 0 ≡ getD W t 0
-      here =
-          m .words t
-          ∙ sym (pick-false (leb release (suc t) && ltb t t) (getD W t 0) (2 ^ j) (and-second-false (leb release (suc t)) (λ e. le-ltb t t (omega arith))))
+  module _ (t : ℕ) (W′ : List ℕ) (m : AddedTo x release deadline t W W′) where
+    pub add-here : getD W′ t 0 ≡ getD W t 0
+    add-here =
+        m .words t
+        ∙ sym (pick-false (leb release (suc t) && ltb t t) (getD W t 0) x (and-second-false (leb release (suc t)) (λ e. le-ltb t t (omega arith))))
 
-      pub mark-bit : (j < maxRations) × (bit (getD W′ t 0) j ≡ 0)
-      mark-bit = (h .ration, rw here (bit-below (getD W t 0) j (h .below t)))
+    pub add-next : t < deadline → (r : ℕ) → r ≡ getD W′ t 0 + x → AddedTo x release deadline (t + 1) W (set W′ t r)
+    add-next l r e =
+        record {
+          from = omega (arith, m .from);
+          to = omega arith;
+          long = length-set W′ t r ∙ m .long;
+          words = λ u. go u (ℕ-discrete u t);
+        }
+      where
+        same : (u : ℕ) → u ≢ t → ltb u t ≡ ltb u (t + 1)
+        same u n = at (ltb u t) refl
+          where
+            at : (x : Bool) → ltb u t ≡ x → x ≡ ltb u (t + 1)
+            at true p = sym (lt-ltb u (t + 1) (omega (arith, ltb-true u t p)))
+            at false p = sym (le-ltb u (t + 1) (omega (arith, ltb-false u t p)))
 
-      pub mark-next : (r : ℕ) → r ≡ getD W′ t 0 + 2 ^ j → MarkedTo j release deadline (t + 1) W (set W′ t r)
-      mark-next r e =
-          record {
-            from = omega (arith, m .from);
-            to = omega arith;
-            long = length-set W′ t r ∙ m .long;
-            words = λ u. go u (ℕ-discrete u t);
-          }
-        where
-          same : (u : ℕ) → u ≢ t → ltb u t ≡ ltb u (t + 1)
-          same u n = at (ltb u t) refl
-            where
-              at : (x : Bool) → ltb u t ≡ x → x ≡ ltb u (t + 1)
-              at true p = sym (lt-ltb u (t + 1) (omega (arith, ltb-true u t p)))
-              at false p = sym (le-ltb u (t + 1) (omega (arith, ltb-false u t p)))
+        go : (u : ℕ) → Dec (u ≡ t) → getD (set W′ t r) u 0 ≡ getD W u 0 + pick (leb release (suc u) && ltb u (t + 1)) x
+        go u (yes p) =
+            ap (λ k. getD (set W′ t r) k 0) p ∙ getD-set-same W′ t r 0 (omega (arith, m .long, last)) ∙ e
+            ∙ rw (p, le-leb release (suc t) (omega (arith, m .from)), lt-ltb t (t + 1) (omega arith), add-here)
+        go u (no n) =
+            getD-set-other W′ t u r 0 n ∙ m .words u ∙ ap (λ b. getD W u 0 + pick (leb release (suc u) && b) x) (same u n)
 
-          go : (u : ℕ) → Dec (u ≡ t) → getD (set W′ t r) u 0 ≡ getD W u 0 + pick (leb release (suc u) && ltb u (t + 1)) (2 ^ j)
-          go u (yes p) =
-              ap (λ x. getD (set W′ t r) x 0) p ∙ getD-set-same W′ t r 0 (omega (arith, m .long, h .last)) ∙ e
-              ∙ rw (p, le-leb release (suc t) (omega (arith, m .from)), lt-ltb t (t + 1) (omega arith), here)
-          go u (no n) =
-              getD-set-other W′ t u r 0 n ∙ m .words u ∙ ap (λ b. getD W u 0 + pick (leb release (suc u) && b) (2 ^ j)) (same u n)
-
-    pub mark-end : deadline ≤ t → Marked j release deadline W W′
-    mark-end l =
+    pub add-end : deadline ≤ t → Added x release deadline W W′
+    add-end l =
         let e : t ≡ deadline = omega (arith, m .to) in
-        record { long = m .long; words = λ u. m .words u ∙ ap (λ b. getD W u 0 + pick (leb release (suc u) && b) (2 ^ j)) (same e u) }
+        record { long = m .long; words = λ u. m .words u ∙ ap (λ b. getD W u 0 + pick (leb release (suc u) && b) x) (same e u) }
       where
         same : t ≡ deadline → (u : ℕ) → ltb u t ≡ leb (suc u) deadline
         same e u = at (ltb u t) refl
@@ -94,6 +90,12 @@ module _ (W : List ℕ) (j release deadline : ℕ) (h : CanMark W j release dead
             at : (x : Bool) → ltb u t ≡ x → x ≡ leb (suc u) deadline
             at true p = sym (le-leb (suc u) deadline (omega (arith, ltb-true u t p)))
             at false p = sym (lt-leb (suc u) deadline (omega (arith, ltb-false u t p)))
+
+-- the bit that is added is not there yet
+pub mark-bit : (W : List ℕ) (j release deadline : ℕ) (h : CanMark W j release deadline) (t : ℕ) (W′ : List ℕ)
+    → AddedTo (2 ^ j) release deadline t W W′ → (j < maxRations) × (bit (getD W′ t 0) j ≡ 0)
+mark-bit W j release deadline h t W′ m =
+    (h .ration, rw (add-here W (2 ^ j) release deadline (h .long) (h .order) (h .last) t W′ m) (bit-below (getD W t 0) j (h .below t)))
 
 -- All windows -------------------------------------------------------------------
 

@@ -38,7 +38,11 @@ pub record CanMark (W : List ℕ) (j release deadline : ℕ) : Type 0 where
   pub last : deadline ≤ maxSlots
   pub below : (t : ℕ) → getD W t 0 < 2 ^ j
 
--- what it ensures: the words of the window's slots have the bit j, the others are as they were
-pub record Marked (j release deadline : ℕ) (W W′ : List ℕ) : Type 0 where
+-- x more in the slots of a window, and the others as they were
+pub record Added (x release deadline : ℕ) (W W′ : List ℕ) : Type 0 where
   pub long : length W′ ≡ maxSlots
-  pub words : (t : ℕ) → getD W′ t 0 ≡ getD W t 0 + pick (inWindow release deadline t) (2 ^ j)
+  pub words : (t : ℕ) → getD W′ t 0 ≡ getD W t 0 + pick (inWindow release deadline t) x
+
+-- what it ensures: the words of the window's slots have the bit j
+abbrev pub Marked : (j release deadline : ℕ) (W W′ : List ℕ) → Type 0
+Marked j = Added (2 ^ j)

@@ -1,6 +1,6 @@
 -- How the answer of the call and its lent buffers follow from what was read, found and planned. Assumes nothing.
-use mathlib.Core.Path.{_≡_, refl, sym, ap, _∙_, subst}
-use mathlib.Core.Bool.{Bool, true, false, _||_, not}
+use mathlib.Core.Path.{_≡_, sym, ap, _∙_, subst}
+use mathlib.Core.Bool.{Bool, true, false, _||_}
 use mathlib.Core.List.{List, []}
 use Prim.Native.Nat.{ℕ, _≤_}
 use native.Mathlib.Omega.{arith}
@@ -18,10 +18,10 @@ use Rattle.cuts.specs.Theorems.{share-most}
 use Rattle.cuts.specs.ReadLaws.{cut-read}
 use Rattle.cuts.specs.Contracts.{CutFrom, ShareFound}
 use Rattle.planning.specs.declared.Planned.{Planned}
-use Rattle.planning.specs.Problem.{Problem, alone, listingOf, wordsFor}
+use Rattle.planning.specs.Problem.{alone, listingOf, wordsFor}
 use Rattle.planning.specs.Planning.{planRefusalFor, shortPlan, shortPlacing, writes, listedAnswer, listingAfter, placingAfter}
 use Rattle.planning.specs.Contracts.{ReadBoth}
-use Rattle.planning.specs.CallAnswers.{writes-nothing, listed-nothing, placed-nothing, by-outcome}
+use Rattle.planning.specs.CallAnswers.{writes-nothing, listed-nothing, placed-nothing}
 use Rattle.shares.specs.declared.SharePlanned.{SharePlanned}
 use Rattle.shares.specs.Shares.{shareProblem, shareRefusal, shareAnswer}
 use Rattle.shares.specs.Theorems.{share-planned}

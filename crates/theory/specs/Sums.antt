@@ -2,7 +2,7 @@
 use Prim.Native.Nat.{ℕ, zero, suc, _+_, _-_, _*_, _≤_, _<_}
 use mathlib.Core.Path.{_≡_, refl, _∙_}
 use mathlib.Core.Logic.{_⊎_, inl, inr, _≢_}
-use native.Mathlib.Nat.{eq-or-lt-of-le, suc-mul}
+use native.Mathlib.Nat.{eq-or-lt-of-le, suc-mul, mul-add}
 use native.Mathlib.Numerals.{add-one}
 use native.Mathlib.Omega.{arith}
 
@@ -37,6 +37,11 @@ pub sum-swap : (n m : ℕ) (f : ℕ → ℕ → ℕ) → sum n (λ i. sum m (λ 
 unfolding sum
 sum-swap zero m f = omega (arith, sum-zero m)
 sum-swap (suc n) m f = omega (arith, sum-swap n m f, sum-add m (λ j. sum n (λ i. f i j)) (λ j. f n j))
+
+pub mul-sum : (k n : ℕ) (f : ℕ → ℕ) → k * sum n f ≡ sum n (λ i. k * f i)
+unfolding sum
+mul-sum k zero f = omega arith
+mul-sum k (suc n) f = omega (arith, mul-sum k n f, mul-add k (sum n f) (f n))
 
 -- f = g + h termwise
 pub sum-split : (n : ℕ) (f g h : ℕ → ℕ) → ((i : ℕ) → i < n → f i ≡ g i + h i) → sum n f ≡ sum n g + sum n h

@@ -5,7 +5,7 @@ use mathlib.Core.Bool.{Bool, true, false, not, _&&_, _||_}
 use native.Mathlib.Omega.{arith}
 use lib.Dec.{eqb}
 use borrow.Author.Tests.{eq-eqb, ne-eqb}
-use Rattle.theory.specs.Sums.{sum, sum-cong, sum-le, sum-add, sum-zero, sum-swap, sum-split, sum-term, sum-pos, sum-tight, sum-lt, sum-change, sum-le-mul}
+use Rattle.theory.specs.Sums.{sum, sum-cong, sum-le, sum-add, sum-zero, sum-swap, mul-sum, sum-split, sum-term, sum-pos, sum-tight, sum-lt, sum-change, sum-le-mul}
 
 -- Definitions -----------------------------------------------------------------
 
@@ -121,6 +121,14 @@ on-le-mul d c Q x h = sum-le-mul d c (λ t. pick (Q t) (x t)) (λ t l. omega (ar
 pub on-swap : (d n : ℕ) (Q : ℕ → Bool) (f : ℕ → ℕ → ℕ) → sumOn d Q (λ t. sum n (λ j. f j t)) ≡ sum n (λ j. sumOn d Q (λ t. f j t))
 unfolding sumOn
 on-swap d n Q f = sum-cong (λ t l. pick-sum (Q t) n (λ j. f j t)) ∙ sum-swap d n (λ t j. pick (Q t) (f j t))
+
+pub pick-mul : (q : Bool) (k x : ℕ) → k * pick q x ≡ pick q (k * x)
+pick-mul true k x = refl
+pick-mul false k x = omega arith
+
+pub mul-on : (k d : ℕ) (Q : ℕ → Bool) (x : ℕ → ℕ) → k * sumOn d Q x ≡ sumOn d Q (λ t. k * x t)
+unfolding sumOn
+mul-on k d Q x = mul-sum k d (λ t. pick (Q t) (x t)) ∙ sum-cong (λ t l. pick-mul (Q t) k (x t))
 
 -- a positive term, and a positive sum
 pub on-pos : (d : ℕ) (Q s : ℕ → Bool) → 0 < sumOn d Q (λ t. one (s t)) → (t : ℕ) × (t < d) × (Q t ≡ true) × (s t ≡ true)

@@ -3,7 +3,6 @@
 use Prim.Native.Nat.{_-_, _≤_, _<_}
 use Rattle.cuts.specs.Contracts.{ReadNone}
 use native.Mathlib.Omega.{arith}
-use borrow.Author.Needs.{needs}
 use Rattle.cuts.proofs.search.least_short.Statement.{statement}
 use Rattle.cuts.proofs.search.least_short.Tie as tie
 

@@ -2,17 +2,18 @@
 use Rattle.cuts.proofs.SearchSteps.{sheet-rations, ends-most, ends-up, share-none, ends-down}
 use native.Mathlib.Omega.{arith}
 use borrow.Author.Needs.{needs}
+use borrow.Author.Needs.{needs}
 use Rattle.cuts.proofs.search.narrow.Statement.{statement}
 use Rattle.cuts.proofs.search.narrow.Tie as tie
 
-sub-share : tie.Need-sub-share
-sub-share c = search needs
+asked-requires : tie.Need-asked-requires
+asked-requires c κs = (omega (arith, c .pre .2), omega (arith, ends-most (c .pre .0 .sheet) (c .pre .1)), c .pre .3 .1)
 
 can-share-requires : tie.Need-can-share-requires
-can-share-requires c κs = (c .before .pre .0, omega (arith, ends-most (c .before .pre .0 .sheet) (c .before .pre .1)))
+can-share-requires c κs = (c .before .before .pre .0, omega (arith, c .before .asked .ensures, ends-most (c .before .before .pre .0 .sheet) (c .before .before .pre .1)))
 
 returns : tie.Need-returns
-returns c = (ends-up (c .before .before .before .pre .0 .sheet) (c .before .before .before .pre .1) _ (c .before .can-share .ensures) (omega (arith, c .before .before .before .pre .2)) (c .if1 .taken), omega (arith, c .before .before .before .pre .2))
+returns c = let e = c .before .before .before .asked .ensures in let q = c .before .before .before .before .pre .3 in (ends-up (c .before .before .before .before .pre .0 .sheet) (c .before .before .before .before .pre .1) _ (c .before .can-share .ensures) (omega (arith, e, c .before .before .before .before .pre .2)) (c .if1 .taken), omega (arith, e, c .before .before .before .before .pre .2, q .0, q .2))
 
 cast-slots : tie.Need-cast-slots
 cast-slots c = search needs
@@ -24,19 +25,19 @@ part-least-short-start : tie.Need-part-least-short-start
 part-least-short-start c = search needs
 
 part-least-short-end : tie.Need-part-least-short-end
-part-least-short-end c = omega (arith, sheet-rations (c .before .before .before .before .before .pre .0 .sheet) .short, c .before .before .before .can-share .ensures .marks-long (c .before .before .if1 .left))
+part-least-short-end c = omega (arith, sheet-rations (c .before .before .before .before .before .before .pre .0 .sheet) .short, c .before .before .before .can-share .ensures .marks-long (c .before .before .if1 .left))
 
 least-short-requires : tie.Need-least-short-requires
-least-short-requires c κs = (c .before .before .before .before .before .before .pre .0 .sheet, share-none (c .before .before .before .before .before .before .pre .0 .sheet) (c .before .before .before .before .before .before .pre .1) _ (c .before .before .before .before .can-share .ensures) (c .before .before .before .if1 .left), omega (arith, c .before .before .before .before .before .before .pre .2), omega (arith, ends-most (c .before .before .before .before .before .before .pre .0 .sheet) (c .before .before .before .before .before .before .pre .1)))
+least-short-requires c κs = let e = c .before .before .before .before .before .before .asked .ensures in (c .before .before .before .before .before .before .before .pre .0 .sheet, share-none (c .before .before .before .before .before .before .before .pre .0 .sheet) (c .before .before .before .before .before .before .before .pre .1) _ (c .before .before .before .before .can-share .ensures) (c .before .before .before .if1 .left), omega (arith, e, c .before .before .before .before .before .before .before .pre .2, c .before .before .before .before .before .before .before .pre .3 .0), omega (arith, e, ends-most (c .before .before .before .before .before .before .before .pre .0 .sheet) (c .before .before .before .before .before .before .before .pre .1)))
 
 returns-2 : tie.Need-returns-2
-returns-2 c = let e = c .least-short .ensures in (ends-down (c .before .before .before .before .before .before .before .pre .0 .sheet) (c .before .before .before .before .before .before .before .pre .1) (e .1) (omega (arith, c .before .before .before .before .before .before .before .pre .2)) (e .0), omega (arith, c .before .before .before .before .before .before .before .pre .2))
+returns-2 c = let a = c .before .before .before .before .before .before .before .asked .ensures in let e = c .least-short .ensures in (ends-down (c .before .before .before .before .before .before .before .before .pre .0 .sheet) (c .before .before .before .before .before .before .before .before .pre .1) (e .1) (omega (arith, a, e .2, c .before .before .before .before .before .before .before .before .pre .2)) (e .0), omega (arith, a, e .2, c .before .before .before .before .before .before .before .before .pre .2))
 
 pub narrow-spec : {M : Type 1} → statement M
 narrow-spec =
     tie.close
     (tie.spec
-    sub-share
+    asked-requires
     can-share-requires
     returns
     cast-slots

@@ -1,12 +1,12 @@
 -- `placing::windows::mark_window` meets its contract: after t slots those of the window before slot t have the bit. Assumes nothing.
-use Prim.Native.Nat.{_-_}
-use Rattle.placing.specs.WindowSteps.{MarkedTo, mark-begin, mark-bit, mark-next, mark-end}
+use Prim.Native.Nat.{_-_, _^_}
+use Rattle.placing.specs.WindowSteps.{AddedTo, add-begin, mark-bit, add-next, add-end}
 use native.Mathlib.Omega.{arith}
 use Rattle.placing.proofs.windows.mark_window.Statement.{statement}
 use Rattle.placing.proofs.windows.mark_window.Tie as tie
 
 abbrev Inv-loop : tie.InvT-loop
-Inv-loop windows₀ j release deadline t₀ windows t = MarkedTo j release deadline t windows₀ windows
+Inv-loop windows₀ j release deadline t₀ windows t = AddedTo (2 ^ j) release deadline t windows₀ windows
 
 abbrev μ-loop : tie.MeasureT-loop
 μ-loop windows₀ j release deadline t₀ windows t = deadline - t
@@ -15,7 +15,7 @@ sub-t : tie.Need-sub-t Inv-loop μ-loop
 sub-t c = omega arith
 
 loop-holds : tie.Need-loop-holds Inv-loop μ-loop
-loop-holds c = mark-begin _ _ _ _ (c .pre)
+loop-holds c = let h = c .pre in add-begin _ _ _ _ (h .long) (h .order) (h .last)
 
 mul-add-bit : tie.Need-mul-add-bit Inv-loop μ-loop
 mul-add-bit c = omega arith
@@ -24,7 +24,7 @@ element-copy-out-add-bit : tie.Need-element-copy-out-add-bit Inv-loop μ-loop
 element-copy-out-add-bit c = omega arith
 
 add-bit-requires : tie.Need-add-bit-requires Inv-loop μ-loop
-add-bit-requires c κs = mark-bit _ _ _ _ (c .before .before .before .pre) _ _ (c .before .before .loop .inv) (omega arith)
+add-bit-requires c κs = mark-bit _ _ _ _ (c .before .before .before .pre) _ _ (c .before .before .loop .inv)
 
 mul-windows : tie.Need-mul-windows Inv-loop μ-loop
 mul-windows c = omega arith
@@ -39,10 +39,10 @@ loop-less : tie.Need-loop-less Inv-loop μ-loop
 loop-less c = omega arith
 
 loop-again : tie.Need-loop-again Inv-loop μ-loop
-loop-again c = mark-next _ _ _ _ (c .before .before .before .before .pre) _ _ (c .before .before .before .loop .inv) (omega arith) _ (c .add-bit .ensures)
+loop-again c = let h = c .before .before .before .before .pre in add-next _ _ _ _ (h .long) (h .order) (h .last) _ _ (c .before .before .before .loop .inv) (omega arith) _ (c .add-bit .ensures)
 
 returns : tie.Need-returns Inv-loop μ-loop
-returns c = mark-end _ _ _ _ (c .before .before .pre) _ _ (c .before .loop .inv) (omega arith)
+returns c = let h = c .before .before .pre in add-end _ _ _ _ (h .long) (h .order) (h .last) _ _ (c .before .loop .inv) (omega arith)
 
 pub mark-window-spec : {M : Type 1} → statement M
 mark-window-spec =

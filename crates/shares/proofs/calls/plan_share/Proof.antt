@@ -2,7 +2,6 @@
 use mathlib.Core.Path.{sym, _∙_}
 use borrow.Author.Tests.{lt-ltb}
 use Rattle.common.specs.Tests.{or-left, or-right}
-use Rattle.checks.specs.Sheet.{sheetOf}
 use Rattle.sheet.specs.OwnCheckLaws.{bytes-read}
 use Rattle.planning.specs.Planning.{shortPlan, shortPlacing}
 use Rattle.planning.specs.CallAnswers.{short-plan, room-plan, tested-placing, room-placing, neither}

@@ -1,0 +1,5 @@
+-- Definitions
+pub mod Densities
+-- Laws
+pub mod SpreadLaws
+pub mod DensityLaws
