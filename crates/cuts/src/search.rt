@@ -1,8 +1,8 @@
 // The greatest share that has a sound placing. It is looked for between two shares, one that has a placing and one from
 // which on none has. Before anything is asked, rations spread evenly give the first, and the sum of the volumes the
-// second. What is asked about is the greatest share that is left between them, as long as the questions left could halve
-// what remains if the answer is no. Then the search leaves the slots that show why, and what smaller shares force into
-// these slots tells how many of those have none either, without another question.
+// second. What is asked about is the greatest share that is left between them, as long as seven questions are enough if
+// the answer is no. Then the search leaves the slots that show why, and what smaller shares force into these slots tells
+// how many of those have none either, without another question.
 use crate::Ends;
 use crate::cutting;
 use densities::SCALE;
@@ -12,7 +12,7 @@ use placing::windows;
 use sheet::Reading;
 ghost use mathlib.Core.Path.{_≡_};
 ghost use mathlib.Core.Bool.{true};
-ghost use Prim.Native.Nat.{_+_, _-_, _≤_, _<_, min};
+ghost use Prim.Native.Nat.{_+_, _-_, _≤_, _<_};
 ghost use lib.IntN.{pos};
 ghost use lib.Signed.{ltZ};
 ghost use Rattle.sheet.specs.OwnChecks.{ReadSheet};
@@ -114,14 +114,19 @@ fn spread_share(sheet: Reading) -> u32
     MAX_SHARE * room / most
 }
 
-// The share to ask about: the greatest below `high` that is at most `reach` above `low`.
+// The share to ask about. It is the greatest that is left, where at most `reach` are left if the answer is no. Else it
+// is one of which so few are left if the answer is yes that the greatest of them comes next; the further below that it
+// is, the less search it takes.
 fn asked(low: u32, high: u32, reach: u32) -> u32
-    requires { ⌜ (low < high) × (high ≤ maxShare + 1) × (reach ≤ maxShare) ⌝ }
-    ensures { λ r. ⌜ r ≡ min (high - 1) (low + reach) ⌝ }
+    requires { ⌜ (low + 1 < high) × (high ≤ maxShare + 1) × Reaches reach low high ⌝ }
+    ensures { λ r. ⌜ (low < r) × (r < high) × (r ≤ low + reach) × (high ≤ r + reach) ⌝ }
 {
-    let most = high - 1;
-    let far = low + reach;
-    if most < far { most } else { far }
+    let most = low + reach;
+    if high - 1 <= most {
+        return high - 1;
+    }
+    let next = high - 1 - reach / 2;
+    if next < most { next } else { most }
 }
 
 // Asks one question, and moves one of the two ends: `low` to the share asked about where it has a placing, `high` to it

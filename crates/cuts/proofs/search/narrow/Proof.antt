@@ -7,13 +7,13 @@ use Rattle.cuts.proofs.search.narrow.Statement.{statement}
 use Rattle.cuts.proofs.search.narrow.Tie as tie
 
 asked-requires : tie.Need-asked-requires
-asked-requires c κs = (omega (arith, c .pre .2), omega (arith, ends-most (c .pre .0 .sheet) (c .pre .1)), c .pre .3 .1)
+asked-requires c κs = (omega (arith, c .pre .2), ends-most (c .pre .0 .sheet) (c .pre .1), c .pre .3)
 
 can-share-requires : tie.Need-can-share-requires
-can-share-requires c κs = (c .before .before .pre .0, omega (arith, c .before .asked .ensures, ends-most (c .before .before .pre .0 .sheet) (c .before .before .pre .1)))
+can-share-requires c κs = (c .before .before .pre .0, omega (arith, c .before .asked .ensures .1, ends-most (c .before .before .pre .0 .sheet) (c .before .before .pre .1)))
 
 returns : tie.Need-returns
-returns c = let e = c .before .before .before .asked .ensures in let q = c .before .before .before .before .pre .3 in (ends-up (c .before .before .before .before .pre .0 .sheet) (c .before .before .before .before .pre .1) _ (c .before .can-share .ensures) (omega (arith, e, c .before .before .before .before .pre .2)) (c .if1 .taken), omega (arith, e, c .before .before .before .before .pre .2, q .0, q .2))
+returns c = let e = c .before .before .before .asked .ensures in (ends-up (c .before .before .before .before .pre .0 .sheet) (c .before .before .before .before .pre .1) _ (c .before .can-share .ensures) (e .1) (c .if1 .taken), omega (arith, e .3))
 
 cast-slots : tie.Need-cast-slots
 cast-slots c = search needs
@@ -28,10 +28,10 @@ part-least-short-end : tie.Need-part-least-short-end
 part-least-short-end c = omega (arith, sheet-rations (c .before .before .before .before .before .before .pre .0 .sheet) .short, c .before .before .before .can-share .ensures .marks-long (c .before .before .if1 .left))
 
 least-short-requires : tie.Need-least-short-requires
-least-short-requires c κs = let e = c .before .before .before .before .before .before .asked .ensures in (c .before .before .before .before .before .before .before .pre .0 .sheet, share-none (c .before .before .before .before .before .before .before .pre .0 .sheet) (c .before .before .before .before .before .before .before .pre .1) _ (c .before .before .before .before .can-share .ensures) (c .before .before .before .if1 .left), omega (arith, e, c .before .before .before .before .before .before .before .pre .2, c .before .before .before .before .before .before .before .pre .3 .0), omega (arith, e, ends-most (c .before .before .before .before .before .before .before .pre .0 .sheet) (c .before .before .before .before .before .before .before .pre .1)))
+least-short-requires c κs = let e = c .before .before .before .before .before .before .asked .ensures in (c .before .before .before .before .before .before .before .pre .0 .sheet, share-none (c .before .before .before .before .before .before .before .pre .0 .sheet) (c .before .before .before .before .before .before .before .pre .1) _ (c .before .before .before .before .can-share .ensures) (c .before .before .before .if1 .left), e .0, omega (arith, e .1, ends-most (c .before .before .before .before .before .before .before .pre .0 .sheet) (c .before .before .before .before .before .before .before .pre .1)))
 
 returns-2 : tie.Need-returns-2
-returns-2 c = let a = c .before .before .before .before .before .before .before .asked .ensures in let e = c .least-short .ensures in (ends-down (c .before .before .before .before .before .before .before .before .pre .0 .sheet) (c .before .before .before .before .before .before .before .before .pre .1) (e .1) (omega (arith, a, e .2, c .before .before .before .before .before .before .before .before .pre .2)) (e .0), omega (arith, a, e .2, c .before .before .before .before .before .before .before .before .pre .2))
+returns-2 c = let a = c .before .before .before .before .before .before .before .asked .ensures in let e = c .least-short .ensures in (ends-down (c .before .before .before .before .before .before .before .before .pre .0 .sheet) (c .before .before .before .before .before .before .before .before .pre .1) (e .1) (omega (arith, a .1, e .2)) (e .0), omega (arith, a .2, e .2))
 
 pub narrow-spec : {M : Type 1} → statement M
 narrow-spec =
