@@ -148,6 +148,15 @@ typedef struct kiwimound_planned {
     size_t length;
 } kiwimound_planned;
 
+/* Of planning a share: the length of the listing written, and the share of the volumes that is fed, 1 to 100 in a
+ * hundred; both are 0 on a refusal. */
+typedef struct kiwimound_share_answer {
+    uint32_t number;
+    uint32_t line;
+    size_t length;
+    uint32_t share;
+} kiwimound_share_answer;
+
 /* Of planning halls: 0 and 0, or 14 and 0 for the whole call; and what planning hall h came to, in hall[h - 1]. Every
  * field of `hall` is 0 on 14, and for a hall that is not there. */
 typedef struct kiwimound_halls {
@@ -256,6 +265,17 @@ kiwimound_planned kiwimound_plan_placing(const uint8_t *sheet, size_t sheet_leng
  * changed. `length` is the listing's. */
 kiwimound_planned kiwimound_plan_both(const uint8_t *sheet, size_t sheet_length, uint8_t *listing,
                                       size_t listing_length, uint64_t *placing, size_t placing_words);
+
+/* Plans a sheet with its rations equally cut, so that one that would be held has a plan too: each volume becomes
+ * volume * share / 100, rounded down, with the greatest share from 0 to 100 for which a plan exists. Refusals 1 to 9
+ * and 13, then 10 if either buffer is too short, and neither is changed; 12 is never given. Number 0 writes the plan of
+ * the cut sheet into both buffers as kiwimound_plan_both does. Its listing has no line for the share, and parts count
+ * what is fed. A ration that is cut to 0 stays on the sheet and is not fed, so that those after it keep their bits.
+ *
+ * A sheet that has a plan as it is has share 100, and kiwimound_plan_both writes the same. No volume is above 96, so
+ * that share 1 cuts all to 0: on number 0 the share is 1 to 100, and 0 says that the sheet was refused. */
+kiwimound_share_answer kiwimound_plan_share(const uint8_t *sheet, size_t sheet_length, uint8_t *listing,
+                                            size_t listing_length, uint64_t *placing, size_t placing_words);
 
 /* Plans up to four halls on one fuse, so that in every slot at most `limit` blowers are busy, those of all halls
  * counted together. `halls` says how many halls there are, and each lends a sheet and both buffers as for

@@ -1,6 +1,6 @@
 /* Every call of the library, on the days of document 01 ("Days at the edge"), on days with several meals for a tank, on
- * days for the placing, for the bill, for the order of plans and for causes, on a day with tanks numbered by site, on
- * halls and on practice sheets: what it answers, what it writes, and what keeps its value. */
+ * days for the placing, for the bill, for the order of plans, for causes and for cut rations, on a day with tanks
+ * numbered by site, on halls and on practice sheets: what it answers, what it writes, and what keeps its value. */
 #include "kiwimound.h"
 
 #include <stdio.h>
@@ -850,6 +850,251 @@ static const struct {
 };
 enum { FAULTY_SHEETS = sizeof faulty_sheets / sizeof *faulty_sheets };
 
+/* Nothing planned: number and line are these, length and share 0, and every byte and word keeps its value. */
+static bool is_without_share(const char *sheet, size_t bytes, size_t words, uint32_t number, uint32_t line)
+{
+    guard();
+    const kiwimound_share_answer a =
+        kiwimound_plan_share((const uint8_t *)sheet, strlen(sheet), listing, bytes, placing, words);
+    return a.number == number && a.line == line && a.length == 0 && a.share == 0 &&
+           kept(listing, sizeof listing, 0) && kept(placing, sizeof placing, 0);
+}
+
+/* The share, the listing and the placing are these, with buffers just long enough and longer; with either of them one
+ * too short, nothing is planned. */
+static bool has_share(const char *sheet, uint32_t share, const char *expected,
+                      const uint64_t words[KIWIMOUND_PLACING_WORDS])
+{
+    const size_t bytes = KIWIMOUND_LISTING_BYTES, count = KIWIMOUND_PLACING_WORDS;
+    for (size_t more = 0; more <= SPARE; more++) {
+        guard();
+        const kiwimound_share_answer a = kiwimound_plan_share((const uint8_t *)sheet, strlen(sheet), listing,
+                                                              bytes + more, placing, count + more);
+        const kiwimound_planned p = {a.number, a.line, a.length};
+        if (p.number != 0 || p.line != 0 || a.share != share || !is_listing(p, expected) || !is_placing(words))
+            return false;
+    }
+    return is_without_share(sheet, bytes - 1, count, KIWIMOUND_SHORT_BUFFER, 0) &&
+           is_without_share(sheet, bytes, count - 1, KIWIMOUND_SHORT_BUFFER, 0);
+}
+
+/* The sheet has a plan as it is: share 100, and both buffers are left as planning with both leaves them. */
+static bool is_whole(const uint8_t *sheet, size_t length)
+{
+    static uint8_t planned[sizeof listing];
+    static uint64_t placed[LENT_WORDS];
+    guard();
+    const kiwimound_planned p = kiwimound_plan_both(sheet, length, listing, sizeof listing, placing, LENT_WORDS);
+    memcpy(planned, listing, sizeof planned);
+    memcpy(placed, placing, sizeof placed);
+    guard();
+    const kiwimound_share_answer a =
+        kiwimound_plan_share(sheet, length, listing, sizeof listing, placing, LENT_WORDS);
+    return p.number == 0 && a.number == 0 && a.line == 0 && a.length == p.length && a.share == 100 &&
+           memcmp(planned, listing, sizeof planned) == 0 && memcmp(placed, placing, sizeof placed) == 0;
+}
+
+static void test_share(void)
+{
+    static const uint64_t four_slots[KIWIMOUND_PLACING_WORDS] = {1, 1, 2 | 4, 2}, none[KIWIMOUND_PLACING_WORDS] = {0};
+    EXPECT(has_share(FOUR_SLOTS, 100, FOUR_SLOTS_PLAN, four_slots));
+    EXPECT(is_whole(LEND(FOUR_SLOTS)) && is_whole(LEND(ONE_FEEDING)) && is_whole(LEND(LAST_SLOT)));
+    EXPECT(is_whole(LEND(TWO_MEALS)) && is_whole(LEND(SITE_TANKS)) && is_whole(LEND("     3     1     4     0\n")));
+
+    /* One feeding is left of each ration, 1.98 rounded down: tank 1 in slot 2, so that slot 1 is idle. */
+    static const uint64_t held[KIWIMOUND_PLACING_WORDS] = {0, 1, 2};
+    EXPECT(has_share(HELD, 99,
+                     "PLAN\n"
+                     "     3     1     2     2\n"
+                     "     1     1     1     0\n"
+                     "     1     2     3     2\n"
+                     "     2     1     1     1\n"
+                     "     3     1     2     1\n"
+                     "     0     5     0     0\n",
+                     held));
+
+    /* Shares 75 to 79 leave three feedings of tank 1, of tank 3 and in the first meal of tank 4, and share 80 leaves
+     * eleven in slots 1 to 5. Tank 2 is not fed, and the rations after it keep their bits. */
+    static const uint64_t short_day[KIWIMOUND_PLACING_WORDS] = {1, 1 | 4, 1 | 8, 4 | 8, 4 | 8, 0, 0, 0, 16, 16};
+    EXPECT(has_share("    10     2     3     5\n"
+                     "     1     1     5     5\n"
+                     "     2     2     2     1\n"
+                     "     3     1     5     5\n"
+                     "     4     1     5     4\n"
+                     "     4     8    10     3\n",
+                     79,
+                     "PLAN\n"
+                     "    20     3     6    11\n"
+                     "     1     1     5     2\n"
+                     "     1     6     8     0\n"
+                     "     1     9    10     2\n"
+                     "     2     1     1     0\n"
+                     "     2     2     5     2\n"
+                     "     2     6    10     0\n"
+                     "     1     1     1     1\n"
+                     "     2     1     1     2\n"
+                     "     2     2     3     1\n"
+                     "     3     1     1     3\n"
+                     "     3     2     4     1\n"
+                     "     4     1     3     2\n"
+                     "     4     2     4     2\n"
+                     "     5     1     3     3\n"
+                     "     5     2     4     3\n"
+                     "     9     1     4     1\n"
+                     "    10     1     4     2\n"
+                     "     0    36     0     0\n",
+                     short_day));
+
+    /* The first meal of tank 5 is cut to 0, the second to 3, and their parts count the feedings that are left. */
+    static const uint64_t meals[KIWIMOUND_PLACING_WORDS] = {0, 0, 2, 2, 2, 4};
+    EXPECT(has_share("     6     1     2     3\n"
+                     "     5     1     2     1\n"
+                     "     5     3     6     4\n"
+                     "     6     3     6     2\n",
+                     99,
+                     "PLAN\n"
+                     "     6     1     2     4\n"
+                     "     1     1     2     0\n"
+                     "     1     3     6     2\n"
+                     "     3     1     5     1\n"
+                     "     4     1     5     2\n"
+                     "     5     1     5     3\n"
+                     "     6     1     6     1\n"
+                     "     0    11     0     0\n",
+                     meals));
+
+    /* Two rations of one feeding in the only slot: whatever is cut, neither is fed. */
+    EXPECT(has_share("     1     1   200     2\n"
+                     "     1     1     1     1\n"
+                     "     2     1     1     1\n",
+                     99,
+                     "PLAN\n"
+                     "     0     0     1     0\n"
+                     "     1     1     1     0\n"
+                     "     0     0     0     0\n",
+                     none));
+
+    /* The least share: 2 leaves each of 64 rations one feeding, in 50 slots of one blower, and 1 leaves none. */
+    static char sheet[KIWIMOUND_SHEET_BYTES(KIWIMOUND_MAX_RATIONS) + 1];
+    uint32_t numbers[4 * KIWIMOUND_MAX_RATIONS];
+    for (uint32_t i = 0; i < KIWIMOUND_MAX_RATIONS; i++)
+        memcpy(numbers + 4 * i, (uint32_t[]){i + 1, 1, 50, 50}, 4 * sizeof *numbers);
+    const kiwimound_written w = kiwimound_write(50, 1, 1, KIWIMOUND_MAX_RATIONS, numbers, 4 * KIWIMOUND_MAX_RATIONS,
+                                                (uint8_t *)sheet, sizeof sheet - 1);
+    EXPECT(w.number == 0 && w.length == sizeof sheet - 1);
+    EXPECT(has_share(sheet, 1,
+                     "PLAN\n"
+                     "     0     0     1     0\n"
+                     "     1     1    50     0\n"
+                     "     0     0     0     0\n",
+                     none));
+}
+
+/* A sheet's own refusal comes before that of a buffer, and 12 is never given. */
+static void test_share_refused(void)
+{
+    static const struct {
+        size_t bytes, words;
+    } few[] = {
+        {KIWIMOUND_LISTING_BYTES - 1, KIWIMOUND_PLACING_WORDS},
+        {KIWIMOUND_LISTING_BYTES, KIWIMOUND_PLACING_WORDS - 1},
+        {KIWIMOUND_LISTING_BYTES - 1, KIWIMOUND_PLACING_WORDS - 1},
+        {KIWIMOUND_LISTING_BYTES + SPARE, 0},
+        {0, LENT_WORDS},
+        {0, 0},
+    };
+    for (size_t i = 0; i < FAULTY_SHEETS; i++) {
+        const char *sheet = faulty_sheets[i].sheet;
+        const uint32_t number = faulty_sheets[i].number, line = faulty_sheets[i].line;
+        EXPECT(is_without_share(sheet, KIWIMOUND_LISTING_BYTES, KIWIMOUND_PLACING_WORDS, number, line));
+        for (size_t j = 0; j < sizeof few / sizeof *few; j++)
+            EXPECT(is_without_share(sheet, few[j].bytes, few[j].words, number, line));
+    }
+    for (size_t j = 0; j < sizeof few / sizeof *few; j++) {
+        EXPECT(is_without_share(FOUR_SLOTS, few[j].bytes, few[j].words, KIWIMOUND_SHORT_BUFFER, 0));
+        EXPECT(is_without_share(HELD, few[j].bytes, few[j].words, KIWIMOUND_SHORT_BUFFER, 0));
+    }
+}
+
+/* Of as many rations as there can be, those with odd numbers are cut to 0: every other bit, up to the last, is left to
+ * the others, which have one feeding each. */
+static void test_share_every_ration(void)
+{
+    static uint8_t sheet[KIWIMOUND_SHEET_BYTES(KIWIMOUND_MAX_RATIONS)];
+    uint32_t numbers[4 * KIWIMOUND_MAX_RATIONS];
+    for (uint32_t i = 1; i <= KIWIMOUND_MAX_RATIONS; i++)
+        memcpy(numbers + 4 * (i - 1), i % 2 == 1 ? (uint32_t[]){i, 1, 1, 1} : (uint32_t[]){i, 1, 4, 2},
+               4 * sizeof *numbers);
+    const kiwimound_written w = kiwimound_write(4, 8, 1, KIWIMOUND_MAX_RATIONS, numbers, 4 * KIWIMOUND_MAX_RATIONS,
+                                                sheet, sizeof sheet);
+    EXPECT(w.number == 0 && w.length == sizeof sheet);
+    guard();
+    const kiwimound_share_answer a =
+        kiwimound_plan_share(sheet, sizeof sheet, listing, sizeof listing, placing, LENT_WORDS);
+    EXPECT(a.number == 0 && a.line == 0 && a.length != 0 && a.share == 99);
+    EXPECT((placing[0] | placing[1] | placing[2] | placing[3]) == UINT64_C(0xAAAAAAAAAAAAAAAA));
+    unsigned feedings = 0;
+    for (size_t t = 0; t < KIWIMOUND_MAX_SLOTS; t++)
+        for (uint64_t word = placing[t]; word != 0; word &= word - 1)
+            feedings++;
+    EXPECT(feedings == 32 && kept(placing, sizeof placing, KIWIMOUND_PLACING_WORDS * sizeof *placing));
+}
+
+/* Writes an accepted sheet cut to a share, without the rations that are cut to 0, which a sheet can't have. Gives its
+ * length. */
+static size_t write_cut(const kiwimound_reading *r, uint32_t share, uint8_t sheet[KIWIMOUND_PRACTICE_BYTES])
+{
+    uint32_t numbers[4 * KIWIMOUND_MAX_RATIONS], n = 0;
+    for (uint32_t i = 0; i < r->rations; i++) {
+        const uint32_t *ration = r->numbers + 4 * i, volume = ration[3] * share / 100;
+        if (volume != 0)
+            memcpy(numbers + 4 * n++, (uint32_t[]){ration[0], ration[1], ration[2], volume}, 4 * sizeof *numbers);
+    }
+    const kiwimound_written w = kiwimound_write(r->slots, r->blowers, r->wake, n, numbers, 4 * (size_t)n, sheet,
+                                                KIWIMOUND_PRACTICE_BYTES);
+    EXPECT(w.number == 0 && w.length == KIWIMOUND_SHEET_BYTES(n));
+    return w.length;
+}
+
+/* Practice sheets, of which more than half are held. A ration has the cut volume in its window; the cut sheet, without
+ * the rations that are not fed, has the same listing; and the sheet of the next share is held. */
+static void test_share_of_practice(void)
+{
+    static uint8_t sheet[KIWIMOUND_PRACTICE_BYTES], cut[KIWIMOUND_PRACTICE_BYTES], planned[KIWIMOUND_LISTING_BYTES];
+    unsigned whole = 0, shorter = 0, unfed = 0;
+    for (uint32_t seed = 0; seed < 300; seed++) {
+        const size_t length = kiwimound_practice(seed, sheet, sizeof sheet).length;
+        if (kiwimound_plan_number(sheet, length).number == 0) {
+            EXPECT(is_whole(sheet, length));
+            whole++;
+            continue;
+        }
+        const kiwimound_reading r = kiwimound_read(sheet, length);
+        guard();
+        const kiwimound_share_answer a =
+            kiwimound_plan_share(sheet, length, listing, sizeof listing, placing, LENT_WORDS);
+        EXPECT(a.number == 0 && a.line == 0 && a.share >= 1 && a.share < 100);
+        for (uint32_t i = 0; i < r.rations; i++) {
+            const uint32_t *ration = r.numbers + 4 * i;
+            uint32_t fed = 0, in_window = 0;
+            for (uint32_t t = 1; t <= KIWIMOUND_MAX_SLOTS; t++) {
+                const bool is_fed = (placing[t - 1] >> i & 1) != 0;
+                fed += is_fed;
+                in_window += is_fed && ration[1] <= t && t <= ration[2];
+            }
+            EXPECT(fed == ration[3] * a.share / 100 && in_window == fed);
+            unfed += fed == 0;
+        }
+        const size_t cut_length = write_cut(&r, a.share, cut);
+        const kiwimound_planned p = kiwimound_plan(cut, cut_length, planned, sizeof planned);
+        EXPECT(p.number == 0 && p.length == a.length && memcmp(planned, listing, p.length) == 0);
+        EXPECT(kept(listing, sizeof listing, a.length));
+        EXPECT(kiwimound_plan_number(cut, write_cut(&r, a.share + 1, cut)).number == KIWIMOUND_HELD);
+        shorter++;
+    }
+    EXPECT(whole > 50 && shorter > 150 && unfed > 200);
+}
+
 static bool is_compared(const char *first, const char *second, uint32_t number, uint32_t line, uint32_t order)
 {
     const kiwimound_compared c =
@@ -1055,6 +1300,9 @@ static bool is_refused(const char *sheet, uint32_t number, uint32_t line)
     };
     for (size_t i = 0; i < sizeof plans / sizeof *plans; i++)
         is = is && plans[i].number == number && plans[i].line == line && plans[i].length == 0;
+    const kiwimound_share_answer share =
+        kiwimound_plan_share(bytes, length, listing, sizeof listing, placing, LENT_WORDS);
+    is = is && share.number == number && share.line == line && share.length == 0 && share.share == 0;
     const struct hall hall = {sheet, WHOLE, number, line, NULL, {0}};
     is = is && are_halls(1, 4, (const struct hall[]){hall, hall, hall, hall});
     is = is && is_compared(sheet, FOUR_SLOTS, number, line, KIWIMOUND_ORDER_NO);
@@ -1389,6 +1637,10 @@ int main(void)
     test_halls_alone();
     test_halls_refused();
     test_halls_of_practice();
+    test_share();
+    test_share_refused();
+    test_share_every_ration();
+    test_share_of_practice();
     test_compare();
     test_compare_refused();
     test_compare_every_ration();

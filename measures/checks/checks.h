@@ -66,6 +66,9 @@ enum fate { ABSENT, PLANNED, HELD, REFUSED };
  * of each hall, in two bits. */
 uint32_t check_halls(const uint8_t *sheet, size_t size, uint32_t choice);
 
+/* Planning a sheet with its rations cut, held to planning as it is. `choice` picks the sizes lent. Gives the share. */
+uint32_t check_share(const uint8_t *sheet, size_t size, uint32_t choice);
+
 /* The four numbers of a line, where writing them gives the line again; else no. */
 bool numbers_of(const uint8_t *line, uint32_t numbers[4]);
 

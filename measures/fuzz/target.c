@@ -41,6 +41,7 @@ int LLVMFuzzerTestOneInput(const uint8_t *data, size_t size) {
     reach(2000 + o.cents / 48);
     reach(3300 + o.causes / 8);
     reach(3700 + check_halls(sheet, size, choice)); /* below 256 */
+    reach(3960 + check_share(sheet, size, choice)); /* to 100 */
 #endif
     return 0;
 }

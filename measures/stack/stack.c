@@ -31,6 +31,9 @@ static void plan_placing(void) { kiwimound_plan_placing(sheet, size, placing, KI
 static void plan_both(void) {
     kiwimound_plan_both(sheet, size, listing, sizeof listing, placing, KIWIMOUND_PLACING_WORDS);
 }
+static void plan_share(void) {
+    kiwimound_plan_share(sheet, size, listing, sizeof listing, placing, KIWIMOUND_PLACING_WORDS);
+}
 /* The sheet four times, behind a limit that leaves the second hall fewer blowers and the last none. */
 static void plan_halls(void) {
     static uint8_t listings[KIWIMOUND_MAX_HALLS][KIWIMOUND_LISTING_BYTES];
@@ -69,6 +72,7 @@ static struct {
     {"plan", plan, 0},
     {"plan_placing", plan_placing, 0},
     {"plan_both", plan_both, 0},
+    {"plan_share", plan_share, 0},
     {"plan_halls", plan_halls, 0},
     {"plan_number", plan_number, 0},
     {"compare", compare, 0},

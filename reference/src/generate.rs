@@ -266,6 +266,28 @@ pub fn held_sheet(draws: &mut Draws, limits: Sizes) -> Sheet {
     }
 }
 
+/// A well-formed sheet without a sound placing that often asks for far more than `held_sheet`
+/// does: windows at random or the whole day, with volumes from some part of their length up. It
+/// is no kind of `any_sheet`, whose draws stay as they are.
+pub fn heavy_sheet(draws: &mut Draws, limits: Sizes) -> Sheet {
+    loop {
+        let sizes = some_sizes(draws, limits, 2);
+        let mut sheet = random_sheet_of(draws, sizes);
+        if draws.one_in(3) {
+            widen(&mut sheet);
+        }
+        let parts = draws.between(1, 4);
+        for ration in &mut sheet.rations {
+            let window = ration.last - ration.first + 1;
+            ration.volume = draws.between(window.div_ceil(parts), window);
+        }
+        some_meals(draws, &mut sheet);
+        if shown_set(&sheet).is_some() {
+            return sheet;
+        }
+    }
+}
+
 /// A well-formed sheet of any kind.
 pub fn any_sheet(draws: &mut Draws, limits: Sizes) -> Sheet {
     match draws.below(5) {

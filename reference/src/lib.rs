@@ -17,5 +17,6 @@ pub mod pairs;
 pub mod placing;
 pub mod practice;
 pub mod sets;
+pub mod share;
 pub mod sheet;
 pub mod through;

@@ -19,8 +19,8 @@ const USAGE: &str = "usage: reference plan < sheet > listing
        reference through PLANNER [WHY [PRACTICE]]
        reference seeds-through PRACTICE
 A seed is a number from 0 to 99,999 in a field of six columns, closed by byte 10.
-KIND is random, whole-day, tight, crowded, jagged, held or damaged; SEED is a number of
-32 bits.
+KIND is random, whole-day, tight, crowded, jagged, held, heavy or damaged; SEED is a number
+of 32 bits.
 STREAM is sheet, placing, plan, days, causes, practice, seeds or halls.";
 
 fn main() -> ExitCode {
@@ -118,6 +118,7 @@ fn generated(kind: &str, seed: u32) -> Option<Vec<u8>> {
         "crowded" => generate::crowded_sheet(draws, FULL),
         "jagged" => generate::jagged_sheet(draws, FULL),
         "held" => generate::held_sheet(draws, FULL),
+        "heavy" => generate::heavy_sheet(draws, FULL),
         "damaged" => return Some(damage::damaged_sheet(draws, FULL)),
         _ => return None,
     };

@@ -53,6 +53,14 @@ pub struct Planned {
 }
 
 #[repr(C)]
+pub struct ShareAnswer {
+    pub number: u32,
+    pub line: u32,
+    pub length: usize,
+    pub share: u32,
+}
+
+#[repr(C)]
 pub struct Halls {
     pub number: u32,
     pub line: u32,
@@ -90,8 +98,8 @@ pub struct CausesAnswer {
 
 mod calls {
     use super::{
-        BoundsAnswer, CausesAnswer, Compared, Halls, Part, Planned, Reading, ShortfallAnswer,
-        Written,
+        BoundsAnswer, CausesAnswer, Compared, Halls, Part, Planned, Reading, ShareAnswer,
+        ShortfallAnswer, Written,
     };
 
     extern "C" {
@@ -131,6 +139,14 @@ mod calls {
             placing: *mut u64,
             placing_words: usize,
         ) -> Planned;
+        pub fn kiwimound_plan_share(
+            sheet: *const u8,
+            length: usize,
+            listing: *mut u8,
+            listing_length: usize,
+            placing: *mut u64,
+            placing_words: usize,
+        ) -> ShareAnswer;
         pub fn kiwimound_plan_halls(
             limit: u32,
             halls: u32,
@@ -261,10 +277,10 @@ impl Day {
         }
     }
 
-    /// Takes over what planning into these buffers answered.
-    fn settle(&mut self, planned: &Planned) {
-        self.number = planned.number;
-        self.listing.truncate(planned.length);
+    /// Takes over what planning into these buffers answered: its number, and the length of the listing.
+    fn settle(&mut self, number: u32, length: usize) {
+        self.number = number;
+        self.listing.truncate(length);
     }
 }
 
@@ -280,8 +296,25 @@ pub fn plan(sheet: &[u8]) -> Day {
             day.placing.len(),
         )
     };
-    day.settle(&planned);
+    day.settle(planned.number, planned.length);
     day
+}
+
+/// Plans a sheet with its rations cut to the greatest share that has a plan. Gives the share and the day of it.
+pub fn plan_share(sheet: &[u8]) -> (u32, Day) {
+    let mut day = Day::lent();
+    let answer = unsafe {
+        calls::kiwimound_plan_share(
+            sheet.as_ptr(),
+            sheet.len(),
+            day.listing.as_mut_ptr(),
+            day.listing.len(),
+            day.placing.as_mut_ptr(),
+            day.placing.len(),
+        )
+    };
+    day.settle(answer.number, answer.length);
+    (answer.share, day)
 }
 
 /// Plans sheets as halls, in their order. There are none where the limit or their number is refused.
@@ -325,7 +358,7 @@ pub fn plan_halls(limit: u32, sheets: &[&[u8]]) -> Option<Vec<Day>> {
         )
     };
     for (day, planned) in days.iter_mut().zip(&answer.hall) {
-        day.settle(planned);
+        day.settle(planned.number, planned.length);
     }
     (answer.number == 0).then(|| days.into_iter().take(sheets.len()).collect())
 }

@@ -173,12 +173,41 @@ impl Sheet {
     /// # Errors
     ///
     /// The sheet is held for want of blowers: some slots have more feedings forced into them than the blowers can make
-    /// there.
+    /// there. [`Sheet::plan_share`] plans such a sheet too, with less of each ration.
     pub fn plan(&self) -> Result<Plan, Held> {
         self.outcome(ffi::plan(&self.bytes))
     }
 
-    /// What planning this sheet came to, alone or as a hall.
+    /// Plans the day with its rations equally cut, so that a sheet that is held has a plan too: gives the share of the
+    /// volumes that is fed, in a hundred, and the plan.
+    ///
+    /// Each volume becomes volume × share / 100, rounded down. The share is the greatest for which the day can be
+    /// planned, from 1 to 100: share 1 cuts every ration to 0, and 100 means that nothing is cut and the plan is that
+    /// of [`Sheet::plan`]. A ration that is cut to 0 keeps its place among the rations and is not fed.
+    ///
+    /// ```
+    /// use kiwimound::Sheet;
+    ///
+    /// // Both rations need slot 2, and there is one blower.
+    /// let sheet = Sheet::read(concat!(
+    ///     "     3     1     1     2\n",
+    ///     "     1     1     2     2\n",
+    ///     "     2     2     3     2\n",
+    /// ))?;
+    /// assert!(sheet.plan().is_err());
+    /// // At 99 in a hundred, each has one feeding of its two.
+    /// let (share, plan) = sheet.plan_share();
+    /// assert_eq!(share, 99);
+    /// assert!(plan.tanks_in(2).eq([1]) && plan.tanks_in(3).eq([2]));
+    /// # Ok::<(), Box<dyn std::error::Error>>(())
+    /// ```
+    pub fn plan_share(&self) -> (u32, Plan) {
+        let (share, day) = ffi::plan_share(&self.bytes);
+        let plan = self.outcome(day);
+        (share, plan.expect("a share of every sheet can be planned"))
+    }
+
+    /// What planning this sheet came to, alone, as a hall or with its rations cut.
     pub(crate) fn outcome(&self, day: ffi::Day) -> Result<Plan, Held> {
         match day.number {
             0 => {

@@ -25,6 +25,12 @@ pub fn both(sheet: &[u8], listing: &mut [u8]) -> (u32, u32, usize) {
     (answer.number, answer.line, answer.length)
 }
 
+/// The same with rations cut.
+pub fn share(sheet: &[u8], listing: &mut [u8]) -> (u32, u32, usize) {
+    let answer = library::plan_share(sheet, listing, &mut [0; PLACING_WORDS]);
+    (answer.number, answer.line, answer.length)
+}
+
 /// Under a name that a counter of instructions finds.
 #[no_mangle]
 #[inline(never)]

@@ -12,6 +12,7 @@ mod planning;
 mod plot;
 mod practice;
 mod questions;
+mod shares;
 mod stats;
 
 use std::path::PathBuf;
@@ -20,6 +21,7 @@ use std::process::ExitCode;
 const USAGE: &str = "usage: benchmark planning SHEETS SLOW-SHEETS [LEMON-PROGRAM]
        benchmark causes SHEETS SLOW-SHEETS
        benchmark halls GROUPS SLOW-GROUPS
+       benchmark shares SHEETS SLOW-SHEETS
        benchmark questions SHEETS SLOW-SHEETS
        benchmark growth SHEETS PLOT
        benchmark once library|plain|placing|both|causes KIND SHEETS
@@ -27,12 +29,14 @@ const USAGE: &str = "usage: benchmark planning SHEETS SLOW-SHEETS [LEMON-PROGRAM
        benchmark shortfall library|plain|by-slot KIND SHEETS
        benchmark practice practice|write|read RATIONS SEEDS
        benchmark halls LIMIT|alone KIND GROUPS
+       benchmark shares sheet|cut|share KIND SHEETS
 SLOW-SHEETS is how many of the sheets the slower implementations get, and SLOW-GROUPS how many of
 the groups of four. PLOT is the file that the plot is written to. `once` plans each sheet once, by
 the library into a plan buffer, a placing buffer or both, or lists its causes, `compare` compares
 each once with the next or with itself, `shortfall` asks the shortfall of each once, `practice`
-makes, writes or reads the practice sheets of the first SEEDS seeds that draw RATIONS rations, and
-`halls` with a KIND plans each group once, as halls behind LIMIT or one sheet after another, for
+makes, writes or reads the practice sheets of the first SEEDS seeds that draw RATIONS rations,
+`halls` with a KIND plans each group once, as halls behind LIMIT or one sheet after another, and
+`shares` with a KIND plans each sheet once as it is, its cut sheet, or with its rations cut, for
 instructions to be counted.";
 
 fn answer(words: &[&str]) -> Option<Result<(), String>> {
@@ -46,6 +50,11 @@ fn answer(words: &[&str]) -> Option<Result<(), String>> {
         ["halls", count, slow] => halls::run(count.parse().ok()?, slow.parse().ok()?),
         ["halls", way, kind, count] => {
             halls::once(way, sheets::Kind::named(kind)?, count.parse().ok()?)?;
+            Ok(())
+        }
+        ["shares", count, slow] => shares::run(count.parse().ok()?, slow.parse().ok()?),
+        ["shares", way, kind, count] => {
+            shares::once(way, sheets::Kind::named(kind)?, count.parse().ok()?)?;
             Ok(())
         }
         ["questions", count, slow] => questions::run(count.parse().ok()?, slow.parse().ok()?),

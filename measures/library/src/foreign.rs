@@ -10,6 +10,15 @@ pub struct Planned {
 
 #[repr(C)]
 #[derive(Clone, Copy, Debug, PartialEq, Eq)]
+pub struct ShareAnswer {
+    pub number: u32,
+    pub line: u32,
+    pub length: usize,
+    pub share: u32,
+}
+
+#[repr(C)]
+#[derive(Clone, Copy, Debug, PartialEq, Eq)]
 pub struct Halls {
     pub number: u32,
     pub line: u32,
@@ -93,6 +102,14 @@ extern "C" {
         placing: *mut u64,
         placing_words: usize,
     ) -> Planned;
+    pub fn kiwimound_plan_share(
+        b: *const u8,
+        n: usize,
+        listing: *mut u8,
+        listing_size: usize,
+        placing: *mut u64,
+        placing_words: usize,
+    ) -> ShareAnswer;
     pub fn kiwimound_plan_halls(
         limit: u32,
         halls: u32,

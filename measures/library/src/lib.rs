@@ -5,7 +5,8 @@ mod foreign;
 mod records;
 
 pub use foreign::{
-    BoundsAnswer, CausesAnswer, Compared, Halls, Part, Planned, Reading, ShortfallAnswer, Written,
+    BoundsAnswer, CausesAnswer, Compared, Halls, Part, Planned, Reading, ShareAnswer,
+    ShortfallAnswer, Written,
 };
 pub use records::{Ration, Records};
 
@@ -38,6 +39,15 @@ pub fn plan_both(sheet: &[u8], listing: &mut [u8], placing: &mut [u64]) -> Plann
     let (out, size) = (listing.as_mut_ptr(), listing.len());
     unsafe {
         foreign::kiwimound_plan_both(bytes, n, out, size, placing.as_mut_ptr(), placing.len())
+    }
+}
+
+/// Plans a sheet with its rations equally cut, with both buffers lent.
+pub fn plan_share(sheet: &[u8], listing: &mut [u8], placing: &mut [u64]) -> ShareAnswer {
+    let (bytes, n) = (sheet.as_ptr(), sheet.len());
+    let (out, size) = (listing.as_mut_ptr(), listing.len());
+    unsafe {
+        foreign::kiwimound_plan_share(bytes, n, out, size, placing.as_mut_ptr(), placing.len())
     }
 }
 

@@ -1,12 +1,13 @@
 //! The sheets that times are measured on: every one of the stated sizes, and of a
 //! kind that says whether it is planned or held. Those that answers are compared on
-//! are in `mixture`, in `groups` where several halls are planned together, and in `pairs`
-//! where two are compared with each other.
+//! are in `mixture`, in `groups` where several halls are planned together, in `pairs`
+//! where two are compared with each other, and in `short` where rations are cut.
 
 pub mod groups;
 pub mod mixture;
 pub mod pack;
 pub mod pairs;
+pub mod short;
 
 use reference::draws::Draws;
 use reference::placing::shown_set;
@@ -37,9 +38,23 @@ pub enum Kind {
     Tight,
     /// A tight sheet with volumes raised until it is held.
     Held,
+    /// A whole-day sheet with all volumes raised by one factor, from 1.1 to 4. Held.
+    OverloadedWholeDay,
+    /// Such a mixed sheet. Held.
+    OverloadedMixed,
 }
 
 pub const KINDS: [Kind; 4] = [Kind::WholeDay, Kind::Mixed, Kind::Tight, Kind::Held];
+
+/// Those that rations are cut on: some fit, some lack little, and some ask for a multiple of what can be fed.
+pub const SHARE_KINDS: [Kind; 6] = [
+    Kind::WholeDay,
+    Kind::Mixed,
+    Kind::Tight,
+    Kind::Held,
+    Kind::OverloadedWholeDay,
+    Kind::OverloadedMixed,
+];
 
 impl Kind {
     pub fn name(self) -> &'static str {
@@ -48,11 +63,13 @@ impl Kind {
             Kind::Mixed => "mixed",
             Kind::Tight => "tight",
             Kind::Held => "held",
+            Kind::OverloadedWholeDay => "overloaded-whole-day",
+            Kind::OverloadedMixed => "overloaded-mixed",
         }
     }
 
     pub fn named(name: &str) -> Option<Self> {
-        KINDS.into_iter().find(|kind| kind.name() == name)
+        SHARE_KINDS.into_iter().find(|kind| kind.name() == name)
     }
 }
 
@@ -68,6 +85,8 @@ fn one(kind: Kind, sizes: Sizes, draws: &mut Draws) -> Sheet {
         Kind::Mixed => mixed(sizes, draws),
         Kind::Tight => tight(sizes, draws),
         Kind::Held => held(sizes, draws),
+        Kind::OverloadedWholeDay => overloaded(whole_day, sizes, draws),
+        Kind::OverloadedMixed => overloaded(mixed, sizes, draws),
     }
 }
 
@@ -189,5 +208,24 @@ fn held(sizes: Sizes, draws: &mut Draws) -> Sheet {
                 return sheet;
             }
         }
+    }
+}
+
+fn overloaded(make: fn(Sizes, &mut Draws) -> Sheet, sizes: Sizes, draws: &mut Draws) -> Sheet {
+    loop {
+        let mut sheet = make(sizes, draws);
+        raise(&mut sheet, draws);
+        if shown_set(&sheet).is_some() {
+            return sheet;
+        }
+    }
+}
+
+/// Raises all volumes by one factor, from 1.1 to 4, each to the length of its window at most.
+fn raise(sheet: &mut Sheet, draws: &mut Draws) {
+    let tenths = draws.between(11, 40);
+    for ration in &mut sheet.rations {
+        let window = ration.last - ration.first + 1;
+        ration.volume = (ration.volume * tenths / 10).min(window);
     }
 }

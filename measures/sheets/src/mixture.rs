@@ -40,14 +40,19 @@ pub const KINDS: [Kind; 21] = [
     kind("random bytes", 500, random_bytes),
 ];
 
-const fn kind(name: &'static str, share: u32, make: fn(&mut Draws) -> Vec<u8>) -> Kind {
+pub(crate) const fn kind(name: &'static str, share: u32, make: fn(&mut Draws) -> Vec<u8>) -> Kind {
     Kind { name, share, make }
 }
 
 /// The kind of the sheet with this place in the run: the rarest first in each 10,000.
 pub fn kind_at(place: usize) -> usize {
+    kind_among(&KINDS, place)
+}
+
+/// The same of a run of other kinds.
+pub(crate) fn kind_among(kinds: &[Kind], place: usize) -> usize {
     let mut left = place as u32 % 10_000;
-    for (at, kind) in KINDS.iter().enumerate() {
+    for (at, kind) in kinds.iter().enumerate() {
         if left < kind.share {
             return at;
         }

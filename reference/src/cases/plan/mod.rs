@@ -1,11 +1,14 @@
 //! Cases for the planning calls: `P` lends a plan buffer, `G` a placing buffer, `B`
-//! both and `N` none; `C` compares two sheets. The payload has two parts. For `C`
-//! they are the two sheets, else the lengths of the lent buffers, one a line, and
-//! the sheet. A plan buffer's length is in bytes, a placing buffer's in words.
+//! both and `N` none; `C` compares two sheets; `S` and `R` cut rations to a share, see
+//! `share.rs`. The payload has two parts, but for `R`. For `C` they are the two sheets,
+//! else the lengths of the lent buffers, one a line, and the sheet. A plan buffer's length
+//! is in bytes, a placing buffer's in words.
 
 mod comparing;
 mod orders;
 mod planning;
+mod share;
+mod short_days;
 
 use super::{digest, digest_words, lent_buffer, lent_words, numbers_of, text_of, Case};
 use crate::comparison::compare;
@@ -15,6 +18,7 @@ use crate::listing::plan;
 pub fn cases() -> Vec<Case> {
     let mut cases = planning::cases();
     cases.extend(comparing::cases());
+    cases.extend(share::cases());
     cases
 }
 
@@ -23,15 +27,27 @@ pub fn output(cases: &[Case]) -> Vec<u8> {
     cases.iter().map(answer).collect::<String>().into_bytes()
 }
 
-/// The operation, number, line and length, then `D` and the digest of each whole
-/// buffer; of a comparison `C`, number, line and the order's number.
 fn answer(case: &Case) -> String {
-    let (first, sheet) = case.parts();
-    if case.operation == b'C' {
-        let (number, line, order) = compare(first, sheet);
-        return format!("C {number} {line} {}\n", order as u32);
+    match case.operation {
+        b'C' => compared(case),
+        b'S' => share::called(case),
+        b'R' => share::gone_through(case),
+        _ => planned(case),
     }
-    let (bytes, words) = match (case.operation, &numbers_of(first)[..]) {
+}
+
+/// `C`, number, line and the order's number.
+fn compared(case: &Case) -> String {
+    let (first, second) = case.parts();
+    let (number, line, order) = compare(first, second);
+    format!("C {number} {line} {}\n", order as u32)
+}
+
+/// The operation, number, line and length, then `D` and the digest of each whole
+/// buffer.
+fn planned(case: &Case) -> String {
+    let (lengths, sheet) = case.parts();
+    let (bytes, words) = match (case.operation, &numbers_of(lengths)[..]) {
         (b'P', &[bytes]) => (Some(bytes), None),
         (b'G', &[words]) => (None, Some(words)),
         (b'B', &[bytes, words]) => (Some(bytes), Some(words)),
@@ -73,7 +89,7 @@ mod tests {
 
     #[test]
     fn the_stream_holds_the_cases() {
-        assert_streamed(&cases(), 1_500_000);
+        assert_streamed(&cases(), 1_600_000);
     }
 
     /// Where a case asks for more, the gate program answers nothing.
@@ -83,7 +99,7 @@ mod tests {
             let most: &[usize] = match case.operation {
                 b'P' => &[LONGER],
                 b'G' => &[MOST_WORDS],
-                b'B' => &[LONGER, MOST_WORDS],
+                b'B' | b'S' => &[LONGER, MOST_WORDS],
                 _ => continue,
             };
             let lengths = numbers_of(case.parts().0);
@@ -96,7 +112,10 @@ mod tests {
     #[test]
     fn every_number_is_shown() {
         let small = |case: &&Case| case.payload.len() < 400;
-        let answers: Vec<String> = cases().iter().filter(small).map(answer).collect();
+        // The answers of the others are looked at in `share.rs`.
+        let own = |case: &&Case| b"PGBNC".contains(&case.operation);
+        let cases = cases();
+        let answers: Vec<String> = cases.iter().filter(own).filter(small).map(answer).collect();
         for (operation, numbers) in [("P", 0..=13), ("G", 0..=13), ("B", 0..=13), ("N", 0..=9)] {
             for number in numbers.filter(|&number| number != 11) {
                 let start = format!("{operation} {number} ");

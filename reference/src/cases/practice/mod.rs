@@ -15,7 +15,8 @@ use crate::practice::{practice, practice_sheet, program};
 use crate::sheet::{LINE, MOST_RATIONS};
 use inputs::{field, odd_inputs, LONG_INPUTS};
 pub use inputs::{long_input, program_inputs, OTHER_INPUTS};
-use seeds::{ranges, seeds_in, CALL_SEEDS, PROGRAM_SEEDS};
+pub use seeds::seeds_in;
+use seeds::{ranges, CALL_SEEDS, PROGRAM_SEEDS};
 
 /// The longest sheet that a seed makes.
 const LONGEST: usize = LINE * (MOST_RATIONS as usize + 1);
@@ -96,7 +97,7 @@ fn called(length: usize, payload: &[u8]) -> String {
 }
 
 /// The first seed of a range, and how many there are.
-fn range_of(payload: &[u8]) -> [u32; 2] {
+pub fn range_of(payload: &[u8]) -> [u32; 2] {
     let numbers = numbers_of(payload);
     numbers.try_into().expect("two numbers name a range")
 }
