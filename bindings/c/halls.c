@@ -3,7 +3,9 @@
  *
  *     halls LIMIT SHEET..
  *
- * Exit status: 0 every hall is planned, 1 one is held or refused or all are, 2 a file can't be read. */
+ * Exit status: 0 every hall is planned, 1 one is held or refused or all are, 2 a file can't be read or the answer not
+ * written. */
+#include "files.h"
 #include "kiwimound.h"
 #include "listing.h"
 
@@ -12,7 +14,7 @@
 
 /* What a hall lends. One that is not there lends lengths of 0. */
 struct hall {
-    uint8_t sheet[KIWIMOUND_MAX_SHEET_BYTES + 1]; /* a file that is longer still is refused by its length */
+    uint8_t sheet[SHEET_ROOM];
     size_t sheet_length;
     uint8_t listing[KIWIMOUND_LISTING_BYTES];
     size_t listing_length;
@@ -28,19 +30,9 @@ static struct hall halls[KIWIMOUND_MAX_HALLS];
 
 static bool read_hall(struct hall *hall, const char *path)
 {
-    FILE *in = fopen(path, "rb");
-    if (in == NULL) {
-        perror(path);
-        return false;
-    }
-    hall->sheet_length = fread(hall->sheet, 1, sizeof hall->sheet, in);
     hall->listing_length = sizeof hall->listing;
     hall->placing_words = KIWIMOUND_PLACING_WORDS;
-    const bool is_read = !ferror(in);
-    if (!is_read)
-        perror(path);
-    fclose(in);
-    return is_read;
+    return read_sheet(path, hall->sheet, &hall->sheet_length);
 }
 
 /* How many blowers of a hall are busy in a slot, from 0: as many as it feeds rations there. */
@@ -94,7 +86,7 @@ int main(int argc, char **argv)
                                                          LEND(halls[1]), LEND(halls[2]), LEND(halls[3]));
     if (planned.number != KIWIMOUND_ACCEPTED) {
         printf("refused: number %u, line %u\n", (unsigned)planned.number, (unsigned)planned.line);
-        return 1;
+        return ended(1);
     }
     int status = 0;
     for (size_t h = 0; h < count; h++) {
@@ -107,5 +99,5 @@ int main(int argc, char **argv)
         }
     }
     print_busy(count, (uint32_t)limit);
-    return status;
+    return ended(status);
 }

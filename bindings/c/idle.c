@@ -4,7 +4,8 @@
  *
  *     idle SHEET        idle < SHEET
  *
- * Exit status: 0 planned, 1 held or refused, 2 the file can't be read. */
+ * Exit status: 0 planned, 1 held or refused, 2 the file can't be read or the answer not written. */
+#include "files.h"
 #include "kiwimound.h"
 #include "listing.h"
 
@@ -12,8 +13,7 @@
 
 enum { IDLE_OFF = 0, IDLE_ON = 1 }; /* states of a stretch; 2 is busy */
 
-/* One byte more than 65,520: a longer file is then refused by its length. */
-static uint8_t sheet[KIWIMOUND_MAX_SHEET_BYTES + 1];
+static uint8_t sheet[SHEET_ROOM];
 static uint8_t listing[KIWIMOUND_LISTING_BYTES];
 
 static void print_idle(void)
@@ -29,27 +29,19 @@ static void print_idle(void)
 
 int main(int argc, char **argv)
 {
-    FILE *in = stdin;
+    size_t length;
     if (argc > 2) {
         fprintf(stderr, "usage: %s [SHEET]\n", argv[0]);
         return 2;
     }
-    if (argc == 2 && (in = fopen(argv[1], "rb")) == NULL) {
-        perror(argv[1]);
+    if (!read_sheet(argc == 2 ? argv[1] : NULL, sheet, &length))
         return 2;
-    }
-    const size_t length = fread(sheet, 1, sizeof sheet, in);
-    if (ferror(in)) {
-        perror("reading the sheet");
-        return 2;
-    }
-    fclose(in);
     const kiwimound_planned planned = kiwimound_plan(sheet, length, listing, sizeof listing);
     if (planned.number == KIWIMOUND_ACCEPTED) {
         print_idle();
         print_bill(listing);
-        return 0;
+        return ended(0);
     }
     print_unplanned(planned, listing);
-    return 1;
+    return ended(1);
 }

@@ -4,13 +4,12 @@
  *     share SHEET        share < SHEET
  *
  * Exit status: 0 planned, whole or cut, 1 refused, 2 the file can't be read or the answer not written. */
+#include "files.h"
 #include "kiwimound.h"
 
-#include <stdbool.h>
 #include <stdio.h>
 
-/* One byte more than 65,520: a longer file is then refused by its length. */
-static uint8_t sheet[KIWIMOUND_MAX_SHEET_BYTES + 1];
+static uint8_t sheet[SHEET_ROOM];
 static uint8_t listing[KIWIMOUND_LISTING_BYTES];
 static uint64_t placing[KIWIMOUND_PLACING_WORDS];
 
@@ -35,33 +34,20 @@ static void print_kept(size_t length)
 
 int main(int argc, char **argv)
 {
-    FILE *in = stdin;
+    size_t length;
     if (argc > 2) {
         fprintf(stderr, "usage: %s [SHEET]\n", argv[0]);
         return 2;
     }
-    if (argc == 2 && (in = fopen(argv[1], "rb")) == NULL) {
-        perror(argv[1]);
+    if (!read_sheet(argc == 2 ? argv[1] : NULL, sheet, &length))
         return 2;
-    }
-    const size_t length = fread(sheet, 1, sizeof sheet, in);
-    if (ferror(in)) {
-        perror("reading the sheet");
-        return 2;
-    }
-    fclose(in);
     const kiwimound_share_answer planned =
         kiwimound_plan_share(sheet, length, listing, sizeof listing, placing, KIWIMOUND_PLACING_WORDS);
-    const bool accepted = planned.number == KIWIMOUND_ACCEPTED;
-    if (accepted) {
-        printf("share %u\n", (unsigned)planned.share);
-        print_kept(length);
-    } else {
+    if (planned.number != KIWIMOUND_ACCEPTED) {
         printf("refused: number %u, line %u\n", (unsigned)planned.number, (unsigned)planned.line);
+        return ended(1);
     }
-    if (fflush(stdout) != 0) {
-        perror("writing the share");
-        return 2;
-    }
-    return accepted ? 0 : 1;
+    printf("share %u\n", (unsigned)planned.share);
+    print_kept(length);
+    return ended(0);
 }
