@@ -51,7 +51,7 @@ const PARTS: usize = 3;
 
 /// The least time of each sheet, for each call on its sheets. A pass that comes after one of another call may be faster
 /// or slower, with what the processor knows of its branches; most passes here come after one of the same call.
-fn measure(calls: [(&[Vec<u8>], Engine); 3]) -> [Times; 3] {
+fn measure(calls: [(&[Vec<u8>], Engine); 3]) -> [Vec<Duration>; 3] {
     let mut out = buffer();
     let mut least = calls.map(|(sheets, _)| vec![Duration::MAX; sheets.len()]);
     for _ in 0..PARTS {
@@ -66,16 +66,23 @@ fn measure(calls: [(&[Vec<u8>], Engine); 3]) -> [Times; 3] {
             }
         }
     }
-    least.map(Times::of)
+    least
+}
+
+/// How many times as long each sheet takes as its cut sheet, for the sheet that is worst in that.
+fn worst_ratio(times: &[Duration], of_cut: &[Duration]) -> f64 {
+    let ratios = times.iter().zip(of_cut);
+    let ratios = ratios.map(|(time, cut)| time.as_secs_f64() / cut.as_secs_f64());
+    ratios.fold(0.0, f64::max)
 }
 
 pub fn run(count: usize, slow: usize) -> Result<(), String> {
     println!("Planning {count} full sheets of each kind with their rations cut, beside the sheets as they are,");
     println!("held or not, and the cut sheets, which are written without the rations cut to 0: microseconds of");
     println!("processor time a sheet, the least of {PASSES} passes. {slow} of each kind are held to the reference.");
-    println!("Times: the median against that of the cut sheets.\n");
-    println!("| Sheets | Call | Median | 99th percentile | Worst | Times |");
-    println!("|---|---|---|---|---|---|");
+    println!("Times: the median against that of the cut sheets; and the most that a sheet takes against its own.\n");
+    println!("| Sheets | Call | Median | 99th percentile | Worst | Times | At most |");
+    println!("|---|---|---|---|---|---|---|");
     for kind in SHARE_KINDS {
         let sheets = texts(kind, FULL, count);
         let cuts: Vec<Vec<u8>> = sheets.iter().map(|sheet| cut(sheet)).collect();
@@ -86,14 +93,22 @@ pub fn run(count: usize, slow: usize) -> Result<(), String> {
             return Err(format!("a {name} sheet with cut rations has two plans"));
         }
         let [as_is, of_cut, of_share] = measure([(&sheets, both), (&cuts, both), (&sheets, share)]);
+        let middle = Times::of(of_cut.clone()).median();
         let rows = [
-            ("plan_both", &as_is),
-            ("plan_both, cut sheet", &of_cut),
-            ("plan_share", &of_share),
+            ("plan_both", as_is),
+            ("plan_both, cut sheet", of_cut.clone()),
+            ("plan_share", of_share),
         ];
-        for (call, times) in rows {
-            let ratio = times.median() / of_cut.median();
-            row(kind.name(), call, times, &format!("{ratio:.2}"));
+        for (call, each) in rows {
+            let most = worst_ratio(&each, &of_cut);
+            let times = Times::of(each);
+            let ratio = times.median() / middle;
+            row(
+                kind.name(),
+                call,
+                &times,
+                &format!("{ratio:.2} | {most:.2}"),
+            );
         }
     }
     Ok(())
