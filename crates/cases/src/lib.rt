@@ -1,5 +1,5 @@
-// What the programs that answer a stream of cases share: taking a case from standard input, the numbers and parts of its
-// payload, the words of an answer, and what a lent buffer of bytes or words holds, and its digest.
+// What the programs that answer a stream of cases share: taking a case from standard input, the numbers and parts of
+// its payload, the words of an answer, and what a lent buffer of bytes or words holds, and its digest.
 //
 // A case has a header of 16 bytes, which has no fields of a sheet: the operation, a number in 5 columns, a blank, the
 // payload's length in 8 columns and byte 10. The payload follows it.

@@ -7,8 +7,8 @@ use Rattle.checks.specs.declared.Refusal.{Refusal}
 use Rattle.checks.specs.Refusals.{shortBuffer, badList, noPlacing, badHalls}
 use Rattle.checks.specs.Checks.{fault}
 
--- write, plan_share: then a lent buffer, which is too short or not. A sheet whose rations are cut to a share always has
--- a sound placing
+-- write, plan_share: then a lent buffer, which is too short or not. No 12: a sheet whose rations are cut to the
+-- greatest share that has a sound placing has one
 abbrev pub bufferChecks : List Refusal → Bool → List Refusal
 bufferChecks own short =
     own

@@ -39,6 +39,10 @@ length-jobsOf n xs e = omega (arith, length-numbersOf (jobsOf xs), ap length (nu
 
 -- One number of a ration -------------------------------------------------------------
 
+-- that of the next ration is a line further on
+next-ration : (j k : ℕ) → fields * suc j + k ≡ suc (suc (suc (suc (fields * j + k))))
+next-ration j k = omega arith
+
 -- number k of ration j among the flat numbers, whatever follows them
 pub numbersOf-at : (none : Job) (js : List Job) (zs : List ℕ) (j k : ℕ) → j < length js → k < fields
     → getD (numbersOf js ++ zs) (fields * j + k) 0 ≡ getD (jobNumbers (getD js j none)) k 0
@@ -50,13 +54,10 @@ numbersOf-at none (x ∷ js) zs zero k l m =
     first : (k : ℕ) → fields * zero + k ≡ k
     first k = omega arith
 numbersOf-at none (x ∷ js) zs (suc j) k l m =
-    ap (λ i. getD (jobNumbers x ++ (numbersOf js ++ zs)) i 0) (next j k) ∙ numbersOf-at none js zs j k (omega arith) m
-  where
-    next : (j k : ℕ) → fields * suc j + k ≡ suc (suc (suc (suc (fields * j + k))))
-    next j k = omega arith
+    ap (λ i. getD (jobNumbers x ++ (numbersOf js ++ zs)) i 0) (next-ration j k) ∙ numbersOf-at none js zs j k (omega arith) m
 
 -- its volume set to another number
-abbrev pub withVolume : ℕ → Job → Job
+abbrev withVolume : ℕ → Job → Job
 withVolume v x = record { tank = x .tank; release = x .release; deadline = x .deadline; volume = v }
 
 pub numbersOf-set : (none : Job) (js : List Job) (zs : List ℕ) (j v : ℕ) → j < length js
@@ -65,10 +66,8 @@ unfolding numbersOf
 numbersOf-set none [] zs j v l = absurd (omega arith)
 numbersOf-set none (x ∷ js) zs zero v l = refl
 numbersOf-set none (x ∷ js) zs (suc j) v l =
-    ap (λ i. set (jobNumbers x ++ (numbersOf js ++ zs)) i v) (next j) ∙ ap (λ ys. jobNumbers x ++ ys) (numbersOf-set none js zs j v (omega arith))
-  where
-    next : (j : ℕ) → fields * suc j + 3 ≡ suc (suc (suc (suc (fields * j + 3))))
-    next j = omega arith
+    ap (λ i. set (jobNumbers x ++ (numbersOf js ++ zs)) i v) (next-ration j 3)
+    ∙ ap (λ ys. jobNumbers x ++ ys) (numbersOf-set none js zs j v (omega arith))
 
 -- Ration after ration ----------------------------------------------------------------
 

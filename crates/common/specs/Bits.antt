@@ -72,8 +72,8 @@ some-bit =
     ⊎-elim (λ e. let p = ih (omega arith) in (suc (p .0), bit-suc w (p .0) ∙ p .1)) (λ l. (zero, omega (arith, bit-zero w)))
     (eq-zero-or-pos (w % 2)))
 
--- what `1 << j` is
-pub one-shl : (j : ℕ) → j < 64 → (1 * 2 ^ j) % 2 ^ 64 ≡ 2 ^ j
+-- what `1 << j` is, of so many bits
+pub one-shl : {width : ℕ} (j : ℕ) → j < width → (1 * 2 ^ j) % 2 ^ width ≡ 2 ^ j
 one-shl j h = rw one-mul (mod-eq-of-lt (pow-lt h))
 
 -- set a bit that is 0

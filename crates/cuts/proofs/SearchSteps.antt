@@ -8,22 +8,24 @@ use native.Mathlib.Nat.{pow-zero, pow-succ', div-le-of-le-mul, div-mul-le-self}
 use native.Mathlib.Omega.{arith}
 use lib.IntN.{pos}
 use lib.ListN.{length, replicate}
-use lib.Pow.{pow-pos, pow-mono, shl-exact}
+use lib.Pow.{pow-pos, pow-mono}
 use lib.Signed.{ltZ}
+use Rattle.common.specs.Bits.{one-shl}
 use Rattle.common.specs.Buffers.{padded}
 use Rattle.checks.specs.declared.Refusal.{Refusal}
-use Rattle.checks.specs.Limits.{maxSlots, maxBlowers}
+use Rattle.checks.specs.Limits.{maxSlots, maxBlowers, maxRations}
 use Rattle.checks.specs.Sheet.{Sheet}
 use Rattle.sheet.specs.declared.Reading.{Reading}
 use Rattle.sheet.specs.Calls.{accepted}
-use Rattle.sheet.specs.OwnChecks.{ReadFrom, SomeReading, ReadSheet}
+use Rattle.sheet.specs.OwnChecks.{ReadFrom, ReadSheet}
 use Rattle.schedules.specs.Demands.{demandsOf, noLow, fullHigh}
 use Rattle.schedules.specs.Schedules.{windowOf, feasible}
 use Rattle.placing.specs.Rations.{demandsFrom, Rations}
 use Rattle.placing.specs.Words.{WindowWords, VolumeBytes}
 use Rattle.placing.specs.WordLaws.{windows-of-day, volumes-of-day, windows-same}
 use Rattle.placing.specs.HeldSteps.{full-words, length-full}
-use Rattle.placing.specs.Represents.{SomeDemands, HighWords, CanBegin, Begun}
+use Rattle.placing.specs.Represents.{SomeDemands, HighWords, CanBegin, Begun, CanBeginAgain, BegunAgain}
+use Rattle.placing.specs.BeginLaws.{holds-none}
 use Rattle.placing.specs.FeasibilitySteps.{demand-words, ration-words, can-begin}
 use Rattle.placing.specs.ReadLaws.{SheetRead, sheet-read}
 use Rattle.cuts.specs.Cuts.{maxShare, cutSheet, hasPlacing}
@@ -32,12 +34,12 @@ use Rattle.questions.specs.ShortfallParts.{ReadShortfall}
 use Rattle.questions.specs.CallLaws.{lacking-infeasible}
 use Rattle.cuts.specs.Contracts.{CutFrom, CanAskShares, ShareAnswered, ReadPossible, ReadNone, Between, ReadBetween, Reaches, ShareFound}
 use Rattle.cuts.specs.ShareLaws.{none-from, between-up, between-down, between-end}
-use Rattle.cuts.specs.CutDemands.{windows-cut, length-cut}
+use Rattle.cuts.specs.CutDemandLaws.{windows-cut, length-cut}
 use Rattle.cuts.specs.ReadLaws.{cut-read}
 
 -- ---- one question
 
-module _ {r : Reading} {W H : List ℕ} (may : CanAskShares r W H) (share : ℕ) (l : share ≤ maxShare) {x : Reading} (cut : CutFrom share r x) where
+module _ {r : Reading} {H N F R : List ℕ} (may : CanAskShares r H N F R) (share : ℕ) (l : share ≤ maxShare) {x : Reading} (cut : CutFrom share r x) where
   z : r .number ≡ 0
   z = may .sheet .zero
 
@@ -60,16 +62,16 @@ module _ {r : Reading} {W H : List ℕ} (may : CanAskShares r W H) (share : ℕ)
     unfolding cutSheet
     same-blowers = b .blowers ∙ sym (a .blowers)
 
-    windows : WindowWords (x .slots) (demandsFrom (x .slots) (x .rations) (x .numbers)) W
+    windows : WindowWords (x .slots) (demandsFrom (x .slots) (x .rations) (x .numbers)) (may .words)
     windows =
-        subst (λ d. WindowWords d (demandsFrom (x .slots) (x .rations) (x .numbers)) W) (sym same-slots)
+        subst (λ d. WindowWords d (demandsFrom (x .slots) (x .rations) (x .numbers)) (may .words)) (sym same-slots)
         (windows-same
         (ap length (b .demands) ∙ length-cut share s ∙ ap length (sym (a .demands)))
         (λ j k. ap (λ ds. windowOf ds j) (b .demands) ∙ windows-cut share s j (rw (a .demands) at k) ∙ ap (λ ds. windowOf ds j) (sym (a .demands)))
         (windows-of-day (a .rations) (may .windows)))
 
-    module _ {N : List ℕ} (v : VolumeBytes (demandsFrom maxSlots (x .rations) (x .numbers)) N) where
-      demands : SomeDemands (x .slots) W N
+    module _ {N′ : List ℕ} (v : VolumeBytes (demandsFrom maxSlots (x .rations) (x .numbers)) N′) where
+      demands : SomeDemands (x .slots) (may .words) N′
       demands = ration-words (b .rations) windows (volumes-of-day (b .rations) v)
 
       high-bytes : HighWords (x .slots) (replicate (x .slots) (x .blowers)) H
@@ -77,7 +79,7 @@ module _ {r : Reading} {W H : List ℕ} (may : CanAskShares r W H) (share : ℕ)
           full-words (x .slots) (x .blowers) (b .rations .short)
           (may .highs ∙ ap₂ (λ d m. padded maxSlots (replicate d m)) (sym same-slots) (sym same-blowers))
 
-      answer : {can : Bool} {F R C S : List ℕ} → Begun can W N H F R C S → can ≡ hasPlacing (cutSheet share s)
+      answer : {can : Bool} {F′ R′ C S : List ℕ} → Begun can (may .words) N′ H F′ R′ C S → can ≡ hasPlacing (cutSheet share s)
       unfolding hasPlacing noLow fullHigh
       answer q =
           q .answer (x .slots) (demandsFrom (x .slots) (x .rations) (x .numbers)) (replicate (x .slots) (x .blowers))
@@ -91,31 +93,46 @@ module _ {r : Reading} {W H : List ℕ} (may : CanAskShares r W H) (share : ℕ)
   pub cut-rations : Rations (x .slots) (x .rations) (x .numbers)
   cut-rations = b h .rations
 
-  module _ {N : List ℕ} (v : VolumeBytes (demandsFrom maxSlots (x .rations) (x .numbers)) N) where
-    pub can-begin-share : {C : List ℕ} → length C ≡ maxSlots → CanBegin W N H C
-    can-begin-share c = can-begin (demands h v) (length-full (r .slots) (r .blowers) (a h .rations .short) (may .highs)) c
+  module _ {N′ : List ℕ} (v : VolumeBytes (demandsFrom maxSlots (x .rations) (x .numbers)) N′) where
+    pub can-begin-share : {C : List ℕ} → length C ≡ maxSlots → CanBeginAgain N N′ H F R C
+    can-begin-share {C} c =
+        let begin : CanBegin (may .words) N′ H C = can-begin (demands h v) (length-full (r .slots) (r .blowers) (a h .rations .short) (may .highs)) c in
+        record { windows = may .words; holds = may .holds; start = begin .start; spares = c }
 
-    pub answered : {can : Bool} {F R C S : List ℕ} → Begun can W N H F R C S → ShareAnswered share r can S
-    answered q = record { answer = λ own s k. answer k v q; marks-long = q .marks-long }
+    module _ {can : Bool} {F′ R′ C S : List ℕ} (q : BegunAgain can N N′ H F R F′ R′ C S) where
+      pub answered : ShareAnswered share r can S
+      answered =
+          let begun = q .begun (may .words) (may .holds) in
+          record { answer = λ own s k. answer k v begun; marks-long = begun .marks-long }
+
+      -- the words hold a placing of this share's volumes now
+      pub ask-again : CanAskShares r H N′ F′ R′
+      ask-again =
+          record {
+            sheet = may .sheet;
+            highs = may .highs;
+            words = may .words;
+            windows = may .windows;
+            holds = q .holds (may .words) (may .holds);
+          }
+
+-- before the first question nothing is fed
+pub ask-first : {r : Reading} {H W : List ℕ} → ReadSheet r → H ≡ padded maxSlots (replicate (r .slots) (r .blowers))
+    → WindowWords maxSlots (demandsFrom maxSlots (r .rations) (r .numbers)) W
+    → CanAskShares r H (replicate maxRations 0) (replicate maxSlots 0) W
+ask-first {W = W} sheet h w = record { sheet = sheet; highs = h; words = W; windows = w; holds = holds-none (w .long) }
 
 -- ---- marked slots
 
--- where the marked slots of the cut sheet have a shortfall above zero, it has no sound placing, nor has any greater share
-pub short-none : {r : Reading} → ReadSheet r → (share : ℕ) → share ≤ maxShare → {x : Reading} → CutFrom share r x → (marks : List ℕ) {a : ShortfallAnswer}
+-- where the marked slots of the cut sheet have a shortfall above zero, it has no sound placing, nor has any greater
+-- share
+pub deficient-none : {r : Reading} → ReadSheet r → (share : ℕ) → share ≤ maxShare → {x : Reading} → CutFrom share r x → (marks : List ℕ) {a : ShortfallAnswer}
     → ReadShortfall x marks a → ltZ (pos 0) (a .shortfall) ≡ true → ReadNone r share
 unfolding hasPlacing
-short-none {r} sheet share l {x} cut marks q above own s h =
+deficient-none {r} sheet share l {x} cut marks q above own s h =
     let k = cut-read h (sheet .zero) share l (cut own s h) in
     none-from s share
     (lacking-infeasible (k .checks) marks (ap (λ a. ltZ (pos 0) (a .shortfall)) (sym (q [] (cutSheet share s) k)) ∙ above))
-
--- the cut sheet was read, and has as many slots
-module _ {r : Reading} (sheet : ReadSheet r) (share : ℕ) (l : share ≤ maxShare) {x : Reading} (cut : CutFrom share r x) where
-  read : ReadFrom [] (cutSheet share (sheet .some .sheet)) x
-  read = cut-read (sheet .some .read) (sheet .zero) share l (cut (sheet .some .own) (sheet .some .sheet) (sheet .some .read))
-
-  pub cut-some : SomeReading x
-  cut-some = record { own = []; sheet = cutSheet share (sheet .some .sheet); read = read }
 
 -- ---- the two ends
 
@@ -158,16 +175,12 @@ module _ {r : Reading} (sheet : ReadSheet r) where
 
 -- ---- the questions left
 
--- the next power of two below, as code shifts it
-shifted : (q : ℕ) → q ≤ 7 → (1 * 2 ^ q) % 2 ^ 32 ≡ 2 ^ q
-shifted q l = shl-exact {a = 1} 1 q 32 (omega arith) (omega arith) ∙ omega arith
-
 -- while more than one share is left, so is a question, and one less can halve what it leaves
 pub question-left : (left low : ℕ) {high : ℕ} → left ≤ 7 → low + 1 < high → high ≤ low + 2 ^ left
     → (1 ≤ left) × Reaches ((1 * 2 ^ (left - 1)) % 2 ^ 32) low high × ((1 * 2 ^ (left - 1)) % 2 ^ 32 ≡ 2 ^ (left - 1))
 question-left left low {high = high} l k m =
     let o = some left m in
-    let e = shifted (left - 1) (omega arith) in
+    let e = one-shl {width = 32} (left - 1) (omega arith) in
     let next : left ≡ suc (left - 1) = omega arith in
     let p = ap (λ q. 2 ^ q) next ∙ pow-succ' 2 (left - 1) in
     (o, (omega (arith, e, pow-pos (left - 1)), omega (arith, e, pow-mono {i = left - 1} {j = 6} (omega arith)), omega (arith, e, p)), e)

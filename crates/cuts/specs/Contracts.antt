@@ -14,6 +14,7 @@ use Rattle.sheet.specs.Calls.{accepted}
 use Rattle.sheet.specs.OwnChecks.{ReadFrom, ReadSheet}
 use Rattle.placing.specs.Rations.{demandsFrom}
 use Rattle.placing.specs.Words.{WindowWords}
+use Rattle.placing.specs.Represents.{Holds}
 use Rattle.cuts.specs.Cuts.{maxShare, cutSheet, hasPlacing, greatestShare}
 
 -- x is what would be read of the cut sheet
@@ -22,11 +23,14 @@ CutFrom share r x = (own : List Refusal) (s : Sheet) → ReadFrom own s r → x 
 
 -- Questions -------------------------------------------------------------------------
 
--- a sheet that was read, with the words W of its windows, which no share changes, and the bytes H of its highs
-pub record CanAskShares (r : Reading) (W H : List ℕ) : Type 0 where
+-- a sheet that was read, the bytes H of its highs, and words F and R that hold some placing of its windows, which no
+-- share changes, with the volumes N
+pub record CanAskShares (r : Reading) (H N F R : List ℕ) : Type 0 where
   pub sheet : ReadSheet r
-  pub windows : WindowWords maxSlots (demandsFrom maxSlots (r .rations) (r .numbers)) W
   pub highs : H ≡ padded maxSlots (replicate (r .slots) (r .blowers))
+  pub words : List ℕ
+  pub windows : WindowWords maxSlots (demandsFrom maxSlots (r .rations) (r .numbers)) words
+  pub holds : Holds words N F R
 
 -- whether the cut sheet has a sound placing; where it has none there is a mark for each slot of the longest day
 pub record ShareAnswered (share : ℕ) (r : Reading) (can : Bool) (marks : List ℕ) : Type 0 where

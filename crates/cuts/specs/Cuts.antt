@@ -18,11 +18,13 @@ cutVolume share volume = volume * share / 100
 
 -- a ration cut to a share: the tank and the window stay
 unfoldable pub cutJob : (share : ℕ) → Job → Job
-cutJob share j = record { tank = j .tank; release = j .release; deadline = j .deadline; volume = cutVolume share (j .volume) }
+cutJob share j =
+    record { tank = j .tank; release = j .release; deadline = j .deadline; volume = cutVolume share (j .volume) }
 
 -- the cut sheet: each ration is cut, and one cut to 0 stays on the sheet, unfed
 unfoldable pub cutSheet : (share : ℕ) → Sheet → Sheet
-cutSheet share s = record { slots = s .slots; blowers = s .blowers; wake = s .wake; jobs = map (cutJob share) (s .jobs) }
+cutSheet share s =
+    record { slots = s .slots; blowers = s .blowers; wake = s .wake; jobs = map (cutJob share) (s .jobs) }
 
 -- the rations of a sheet have a sound placing: without further word, low is 0 and high is m
 unfoldable pub hasPlacing : Sheet → Bool

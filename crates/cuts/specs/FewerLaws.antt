@@ -1,38 +1,17 @@
 -- Smaller volumes in the same windows: where a sound placing exists, one exists for these too; and where nothing is
 -- asked, one exists. Assumes nothing.
 use mathlib.Core.Path.{_≡_, refl, ap}
-use mathlib.Core.Bool.{true, false}
+use mathlib.Core.Bool.{true}
 use mathlib.Core.List.{List, [], _∷_}
-use Prim.Native.Nat.{ℕ, zero, suc, _≤_}
+use Prim.Native.Nat.{ℕ, _≤_}
 use native.Mathlib.Omega.{arith}
 use lib.ListN.{length, replicate, length-replicate}
-use Rattle.common.specs.FillLaws.{getD-zeros}
-use Rattle.schedules.specs.Slots.{Slots, outside, sumOver}
+use Rattle.schedules.specs.Slots.{Slots, outside}
 use Rattle.schedules.specs.Schedules.{Demand, Windows, feasible}
-use Rattle.schedules.specs.Shortfall.{forced, capacity, shortfall, possible, excess, NoObstacle}
+use Rattle.schedules.specs.Shortfall.{forced, capacity, shortfall}
 use Rattle.schedules.specs.Differences.{sub-le-zero}
-use Rattle.schedules.specs.FeasibleLaws.{feasible-sound, sound-feasible, sound-no-obstacle, no-obstacle-sound}
-
--- lows of 0 ask for nothing
-none-asked : (n : ℕ) (q : Slots) → capacity (replicate n 0) q ≡ 0
-unfolding sumOver
-none-asked zero q = refl
-none-asked (suc n) [] = refl
-none-asked (suc n) (true ∷ q) = omega (arith, none-asked n q)
-none-asked (suc n) (false ∷ q) = omega (arith, none-asked n q)
-
--- where into no set more is forced than its capacity, a sound placing exists
-pub within-capacity : {slots : ℕ} {ds : List Demand} → Windows slots ds → (high : List ℕ) → length high ≡ slots
-    → ((q : Slots) → length q ≡ slots → forced ds q ≤ capacity high q) → feasible slots ds (replicate slots 0) high ≡ true
-unfolding shortfall excess
-within-capacity {slots} {ds} w high h fits =
-    let zeros : List ℕ = replicate slots 0 in
-    let o : NoObstacle slots ds zeros high = record {
-      ordered = λ t l. omega (arith, getD-zeros slots t);
-      no-shortfall = λ q l. sub-le-zero (forced ds q) (capacity high q) .1 (fits q l);
-      no-excess = λ q l. sub-le-zero (capacity zeros q) (possible ds q) .1 (omega (arith, none-asked slots q));
-    } in
-    sound-feasible w (length-replicate slots 0) h (no-obstacle-sound w (length-replicate slots 0) h o .1)
+use Rattle.schedules.specs.FeasibleLaws.{feasible-sound, sound-no-obstacle}
+use Rattle.schedules.specs.CriticalLaws.{within-capacity}
 
 -- the first list's volumes are at most the second's, in the same windows
 abbrev pub Fewer : List Demand → List Demand → Type 0

@@ -7,6 +7,6 @@ pub mod Contracts
 -- Laws
 pub mod FewerLaws
 pub mod ShareLaws
-pub mod CutDemands
-pub mod SpreadShares
+pub mod CutDemandLaws
+pub mod SpreadShareLaws
 pub mod ReadLaws

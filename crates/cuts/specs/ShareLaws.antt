@@ -23,16 +23,16 @@ use Rattle.cuts.specs.FewerLaws.{Fewer, fewer-feasible, Nothing, nothing
 
 -- Cut volumes -----------------------------------------------------------------------
 
-pub cut-mono : (v a b : ℕ) → a ≤ b → cutVolume a v ≤ cutVolume b v
+cut-mono : (v a b : ℕ) → a ≤ b → cutVolume a v ≤ cutVolume b v
 unfolding cutVolume
 cut-mono v a b l = omega (arith, mul-le-mul-left v l)
 
 -- the whole share leaves a volume as it is, and no share is above it
-pub cut-whole : (v : ℕ) → cutVolume maxShare v ≡ v
+cut-whole : (v : ℕ) → cutVolume maxShare v ≡ v
 unfolding cutVolume
 cut-whole v = omega arith
 
-pub cut-within : (share v : ℕ) → share ≤ maxShare → cutVolume share v ≤ v
+cut-within : (share v : ℕ) → share ≤ maxShare → cutVolume share v ≤ v
 cut-within share v l = omega (arith, cut-mono v share maxShare l, cut-whole v)
 
 -- nothing is left where the product is below 100

@@ -24,22 +24,11 @@ pub rounded-down : (share volume : ℕ) → (100 * cutVolume share volume ≤ vo
 unfolding cutVolume
 rounded-down share volume = (omega arith, omega arith)
 
--- The same rations in the same order, each with its tank and its window; none is left out.
-pub record RationCut (share : ℕ) (j c : Job) : Type 0 where
-  pub tank : c .tank ≡ j .tank
-  pub release : c .release ≡ j .release
-  pub deadline : c .deadline ≡ j .deadline
-  pub volume : c .volume ≡ cutVolume share (j .volume)
-
+-- each ration is cut in its place, and none is left out
 pub rations-cut : (share : ℕ) (s : Sheet) → (length (cutSheet share s .jobs) ≡ length (s .jobs))
-    × ((i : ℕ) (none : Job) → i < length (s .jobs) → RationCut share (getD (s .jobs) i none) (getD (cutSheet share s .jobs) i none))
-unfolding cutSheet cutJob
-rations-cut share s = (
-  length-map (s .jobs) (cutJob share),
-  λ i none l.
-      let e = getD-map-below (cutJob share) (s .jobs) i none none l in
-      record { tank = ap (λ c. c .tank) e; release = ap (λ c. c .release) e; deadline = ap (λ c. c .deadline) e; volume = ap (λ c. c .volume) e },
-)
+    × ((i : ℕ) (none : Job) → i < length (s .jobs) → getD (cutSheet share s .jobs) i none ≡ cutJob share (getD (s .jobs) i none))
+unfolding cutSheet
+rations-cut share s = (length-map (s .jobs) (cutJob share), λ i none l. getD-map-below (cutJob share) (s .jobs) i none none l)
 
 -- The greatest share ----------------------------------------------------------------
 
@@ -85,7 +74,7 @@ module _ (s : Sheet) where
     λ e. omega (arith, share-most, le-longest test maxShare maxShare (omega arith) (ap hasPlacing (cut-whole-sheet s) ∙ e)),
   )
 
-  -- it is at least 1: no volume of a sheet is above 96, and a hundredth of that is none
+  -- it is at least 1: no volume of a sheet is above 96, and a hundredth of that is 0, rounded down
   pub share-least : {least : ℕ} → ValuesInRange least s (length (s .jobs)) true → 1 ≤ greatestShare s
   unfolding greatestShare
   share-least v = le-longest test maxShare 1 (omega arith) (share-one s v)

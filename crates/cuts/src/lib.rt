@@ -9,9 +9,3 @@ mod search;
 
 pub use cutting::cut_sheet;
 pub use search::greatest_share;
-
-// The shares between which the greatest is looked for: `low` has a sound placing, `high` and all above have none.
-pub struct Ends {
-    pub low: u32,
-    pub high: u32,
-}

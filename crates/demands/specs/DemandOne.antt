@@ -60,7 +60,7 @@ use Rattle.demands.specs.AnswerLaws.{alone-is, first-of, numbered-one, n
 use Rattle.demands.specs.ComparisonLaws.{no-order}
 use Rattle.demands.specs.CausesLaws.{causes-listed, causes-buffer, causes-room, why-front, why-causes, why-refused}
 use Rattle.demands.specs.PracticeLaws.{practice-taken, practice-refused}
-use Rattle.demands.specs.SharesLaws.{cut-is, first-share, not-held, no-share, share-buffers, share-whole}
+use Rattle.demands.specs.SharesLaws.{cut-is, first-share, not-held, no-share, share-buffers, share-whole, share-held}
 use Rattle.demands.specs.HallsLaws.{first-halls, halls-kept, halls-answered, halls-earlier, halls-without, hall-alone, hall-is}
 
 pub record DemandOne : Type 0 where
@@ -116,7 +116,7 @@ pub record DemandOne : Type 0 where
   pub compare : (a b : List ℕ) → let r = comparedOf a b in
       FirstOf (comparisonChecks (faults a) (not (canBePlanned (alone (sheetOf a)))) (faults b) (not (canBePlanned (alone (sheetOf b))))) (r .number) (r .line)
       × (NotZero (r .number) → r .order ≡ orderNumber No)
-  -- Short rations: 10 after the checks of the sheet; 12 is not among them, and on any refusal the share is 0 ------------
+  -- Short rations: 10 after the checks of the sheet; 12 is not among them, and on any refusal the share is 0 ----------
 
   -- what is planned is the sheet cut to the share answered, as `cut-is` says; `plan-share` of demand 3 says that it is
   -- the greatest
@@ -133,6 +133,10 @@ pub record DemandOne : Type 0 where
       (shareAnswer q (sheetOf b) ≡ record { number = a .number; line = a .line; length = a .length; share = 100 })
       × (listingAfter q (listingOf c) listing ≡ listingAfter r (listingOf p) listing)
       × (placingAfter q (wordsFor c) placing ≡ placingAfter r (wordsFor p) placing)
+      × (listingAfter q (listingOf c) listing ≡ listingAfter (planRefusal b (shortPlan listing)) (listingOf p) listing)
+  -- where it gives 12 the share is smaller
+  pub share-held : (b listing placing : List ℕ) → let short = shortPlan listing || shortPlacing placing in
+      planRefusal b short .number ≡ noPlacing → shareAnswer (shareRefusal b short) (sheetOf b) .share < 100
   -- Halls: 14 before all sheets; then each hall has the checks of a planning call, under its own highs ------------
 
   -- 32 and 4 are the paper's numbers. With 14, and for a hall that is not there: zeros, and buffers as they were. A
@@ -302,6 +306,7 @@ demand-one =
           let w = share-buffers b listing placing in
           (first-share b listing placing, not-held b listing placing, no-share b listing placing, w .0, w .1);
       share-whole = share-whole;
+      share-held = share-held;
       halls-earlier = halls-earlier;
       halls-without = halls-without;
       hall-alone = hall-alone;

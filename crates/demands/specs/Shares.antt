@@ -27,7 +27,8 @@ pub record CutIs (share : ℕ) (s : Sheet) : Type 0 where
   pub blowers : cutSheet share s .blowers ≡ s .blowers
   pub wake : cutSheet share s .wake ≡ s .wake
   pub rations : length (cutSheet share s .jobs) ≡ length (s .jobs)
-  pub each : (i : ℕ) → i < length (s .jobs) → RationIs share (getD (s .jobs) i noJob) (getD (cutSheet share s .jobs) i noJob)
+  pub each : (i : ℕ) → i < length (s .jobs)
+      → RationIs share (getD (s .jobs) i noJob) (getD (cutSheet share s .jobs) i noJob)
 
 -- the problem that an answer is about: the sheet cut to the share answered, alone
 abbrev pub problemAt : (b : List ℕ) → SharePlanned → Problem
@@ -38,7 +39,7 @@ abbrev pub writtenShare : SharePlanned → (listing : List ℕ) → List ℕ
 writtenShare a listing = take (a .length) listing
 
 -- The share answered for a sheet: it and every smaller one have a placing that may be taken, and no greater one up to
--- 100 has. It is never 0: a hundredth of a volume, which is at most 96, is none, so that share 1 always has one.
+-- 100 has. It is never 0: a hundredth of a volume, which is at most 96, is 0, rounded down, so that share 1 has one.
 pub record GreatestShare (s : Sheet) (share : ℕ) : Type 0 where
   pub least : 1 ≤ share
   pub most : share ≤ 100

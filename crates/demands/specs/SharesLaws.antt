@@ -1,13 +1,14 @@
 -- Why the call that plans the greatest share gives what the demands ask, from the theorems of `cuts` and `shares` and
 -- the laws of one problem. Assumes nothing.
-use mathlib.Core.Path.{_≡_, refl, sym, ap, _∙_, subst}
+use mathlib.Core.Path.{_≡_, refl, sym, ap, ap₂, _∙_, subst}
 use mathlib.Core.Bool.{Bool, true, false, _||_, cond}
 use mathlib.Core.List.{List, []}
-use Prim.Native.Nat.{ℕ, _≤_}
+use Prim.Native.Nat.{ℕ, _≤_, _<_}
 use native.Mathlib.Omega.{arith}
 use lib.Dec.{eqb}
 use lib.ListN.{length, getD, take}
 use borrow.Author.Tests.{eq-eqb, ne-eqb}
+use Rattle.common.specs.Tests.{or-false}
 use Rattle.checks.specs.declared.Refusal.{Refusal}
 use Rattle.checks.specs.Refusals.{shortBuffer, noPlacing}
 use Rattle.checks.specs.Sheet.{Sheet, sheetOf}
@@ -16,17 +17,17 @@ use Rattle.checks.specs.CallChecks.{bufferChecks}
 use Rattle.checks.specs.RangeLaws.{ValuesInRange}
 use Rattle.sheet.specs.OwnCheckLaws.{bytes-checked}
 use Rattle.schedules.specs.DemandLaws.{noJob}
-use Rattle.cuts.specs.Cuts.{maxShare, cutSheet, greatestShare}
+use Rattle.cuts.specs.Cuts.{maxShare, cutJob, cutSheet, greatestShare}
 use Rattle.cuts.specs.Theorems.{rounded-down, rations-cut, share-most, share-least}
 use Rattle.plan_lines.specs.Sizes.{planBytes, placingWords}
 use Rattle.planning.specs.Problem.{Problem, alone, ProblemInRange, canBePlanned, feedingsOf, listingOf, wordsFor}
 use Rattle.planning.specs.Planning.{planChecks, planRefusal, shortPlan, shortPlacing, writes, listedAnswer, listingAfter, placingAfter}
 use Rattle.planning.specs.ReadListing.{linesOf}
-use Rattle.planning.specs.CallAnswers.{passed-planned, room-plan, room-placing, neither}
+use Rattle.planning.specs.CallAnswers.{passed-planned, passed-held, room-plan, room-placing, neither}
 use Rattle.planning.specs.WrittenLaws.{number-planned, listing-written, placing-written, writes-planned}
 use Rattle.shares.specs.declared.SharePlanned.{SharePlanned}
 use Rattle.shares.specs.Shares.{shareProblem, shareRefusal, shareAnswer}
-use Rattle.shares.specs.Theorems.{share-in-range, share-planned, smaller-planned, greater-not, whole-share, whole-problem, refusal-as-planned, never-held}
+use Rattle.shares.specs.Theorems.{share-in-range, share-planned, smaller-planned, greater-not, whole-share, whole-problem, held-share, refusal-as-planned, never-held}
 use Rattle.demands.specs.Answers.{FirstOf, NotZero, PlanBuffer, PlacingBuffer}
 use Rattle.demands.specs.Outcome.{Outcome, placingIn, SamePlacing}
 use Rattle.demands.specs.ByMethod.{ChosenByMethod, ByMethod}
@@ -36,7 +37,7 @@ use Rattle.demands.specs.OutcomeLaws.{outcome-planned, placing-listed, m
 use Rattle.demands.specs.ByMethodLaws.{feedings-chosen, by-method}
 
 pub cut-is : (share : ℕ) (s : Sheet) → CutIs share s
-unfolding cutSheet
+unfolding cutSheet cutJob
 cut-is share s =
     let c = rations-cut share s in
     record {
@@ -45,14 +46,14 @@ cut-is share s =
       wake = refl;
       rations = c .0;
       each = λ i l.
-          let r = c .1 i noJob l in
+          let e = c .1 i noJob l in
           let floor = rounded-down share (getD (s .jobs) i noJob .volume) in
           record {
-            tank = r .tank;
-            release = r .release;
-            deadline = r .deadline;
-            at-most = omega (arith, r .volume, floor .0);
-            rounded-down = omega (arith, r .volume, floor .1);
+            tank = ap (λ j. j .tank) e;
+            release = ap (λ j. j .release) e;
+            deadline = ap (λ j. j .deadline) e;
+            at-most = omega (arith, ap (λ j. j .volume) e, floor .0);
+            rounded-down = omega (arith, ap (λ j. j .volume) e, floor .1);
           };
     }
 
@@ -136,26 +137,46 @@ module _ (b listing placing : List ℕ) where
         other-placing problem-is not-held (w .1),
       )
 
-  -- a sheet that `plan-both` plans has share 100, and the same answer and buffers
+  -- a sheet that `plan-both` plans has share 100, and the same answer and buffers; its plan buffer is that of `plan`
   pub share-whole : let q = alone s in let x = planRefusal b short in x .number ≡ 0 → let y = listedAnswer x (listingOf q) in
       (a ≡ record { number = y .number; line = y .line; length = y .length; share = maxShare })
       × (listingAfter r (listingOf p) listing ≡ listingAfter x (listingOf q) listing)
       × (placingAfter r (wordsFor p) placing ≡ placingAfter x (wordsFor q) placing)
+      × (listingAfter r (listingOf p) listing ≡ listingAfter (planRefusal b (shortPlan listing)) (listingOf q) listing)
   unfolding planRefusal shareAnswer listedAnswer
   share-whole z = (
     rw (same-refusal, same-problem, whole-share s can, eq-eqb (planRefusal b short .number) 0 z, writes-planned (planRefusal b short .number) z),
     rw (same-refusal, same-problem),
     rw (same-refusal, same-problem),
+    ap₂ (λ f q. listingAfter f (listingOf q) listing) (same-refusal ∙ ap (planRefusal b) same-short) same-problem,
   )
     where
+      passed : (faults b ≡ []) × (short ≡ false) × (canBePlanned (alone s) ≡ true)
+      passed = passed-planned (faults b) (bytes-checked b .numbered) short (canBePlanned (alone s)) z
+
       can : canBePlanned (alone s) ≡ true
-      can = passed-planned (faults b) (bytes-checked b .numbered) short (canBePlanned (alone s)) z .2
+      can = passed .2
+
+      same-short : short ≡ shortPlan listing
+      same-short = passed .1 ∙ sym (or-false (shortPlan listing) (shortPlacing placing) (passed .1) .0)
 
       same-problem : p ≡ alone s
       same-problem = whole-problem s can
 
       same-refusal : r ≡ planRefusal b short
       same-refusal = refusal-as-planned b short ∙ ap (λ x. firstRefusal (planChecks (faults b) short x)) same-problem
+
+  -- one that it holds has a smaller share
+  pub share-held : planRefusal b short .number ≡ noPlacing → a .share < maxShare
+  unfolding planRefusal shareAnswer
+  share-held e = go (eqb (r .number) 0)
+    where
+      smaller : greatestShare s < maxShare
+      smaller = held-share s (passed-held (faults b) (bytes-checked b .of-sheet) short (canBePlanned (alone s)) e .2)
+
+      go : (t : Bool) → cond t (greatestShare s) 0 < maxShare
+      go true = smaller
+      go false = omega arith
 
   -- with buffers that are long enough
   module _ (formed : faults b ≡ []) (l : planBytes ≤ length listing) (k : placingWords ≤ length placing) where

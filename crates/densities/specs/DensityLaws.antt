@@ -1,7 +1,6 @@
 -- Densities and their sums: rounded up they hold the volume, they are at most one feeding in each slot, and so the
 -- sums are small; and how they are added up. Assumes nothing.
 use mathlib.Core.Path.{_≡_, ap, subst}
-use mathlib.Core.Bool.{Bool, true, false}
 use mathlib.Core.List.{List}
 use Prim.Native.Nat.{ℕ, suc, _+_, _-_, _*_, _≤_, _<_, max}
 use native.Mathlib.Nat.{lt-div-mul-add, div-lt-iff-lt-mul}
@@ -11,39 +10,35 @@ use lib.ListN.{length, getD, replicate, length-replicate}
 use Rattle.common.specs.FillLaws.{getD-zeros}
 use Rattle.checks.specs.Limits.{maxSlots, maxRations}
 use Rattle.theory.specs.Sums.{sum-none, sum-next, sum-le-mul}
-use Rattle.theory.specs.SumsOver.{pick}
+use Rattle.theory.specs.SumsOver.{pick, pick-le-self}
 use Rattle.placing.specs.Rations.{releaseAt, deadlineAt, volumeAt, Rations}
 use Rattle.placing.specs.Words.{inWindow, Added}
 use Rattle.densities.specs.Densities.{scale, density, densityOf, densityAt, DensitySums, DensityMost, CanAdd}
 
 -- One ration --------------------------------------------------------------------------
 
-pub density-covers : (volume length : ℕ) → 1 ≤ length → scale * volume ≤ density volume length * length
+pub density-covers : (volume span : ℕ) → 1 ≤ span → scale * volume ≤ density volume span * span
 unfolding density
-density-covers volume length l = omega (arith, lt-div-mul-add {a = scale * volume + (length - 1)} {b = length} (omega arith))
+density-covers volume span l = omega (arith, lt-div-mul-add {a = scale * volume + (span - 1)} {b = span} (omega arith))
 
-pub density-small : (volume length : ℕ) → 1 ≤ length → volume ≤ length → density volume length ≤ scale
+density-small : (volume span : ℕ) → 1 ≤ span → volume ≤ span → density volume span ≤ scale
 unfolding density
-density-small volume length l m =
-    omega (arith, div-lt-iff-lt-mul {k = length} {x = scale * volume + (length - 1)} {y = scale + 1} (omega arith) .1 (omega arith))
-
-pick-small : (b : Bool) {x most : ℕ} → x ≤ most → pick b x ≤ most
-pick-small true l = l
-pick-small false l = omega arith
+density-small volume span l m =
+    omega (arith, div-lt-iff-lt-mul {k = span} {x = scale * volume + (span - 1)} {y = scale + 1} (omega arith) .1 (omega arith))
 
 -- The sums ----------------------------------------------------------------------------
 
 module _ {n : ℕ} {numbers : List ℕ} (h : Rations maxSlots n numbers) where
-  pub of-small : (j : ℕ) → j < n → densityOf numbers j ≤ scale
+  of-small : (j : ℕ) → j < n → densityOf numbers j ≤ scale
   of-small j l =
       let r = h .each j l in
       density-small (volumeAt numbers j) (suc (deadlineAt numbers j) - releaseAt numbers j) (omega (arith, r .window)) (r .volume)
 
-  pub sums-small : (j : ℕ) → j ≤ n → (t : ℕ) → densityAt j numbers t ≤ j * scale
+  sums-small : (j : ℕ) → j ≤ n → (t : ℕ) → densityAt j numbers t ≤ j * scale
   unfolding densityAt
   sums-small j l t =
       sum-le-mul j scale (λ i. pick (inWindow (releaseAt numbers i) (deadlineAt numbers i) t) (densityOf numbers i))
-      (λ i k. pick-small (inWindow (releaseAt numbers i) (deadlineAt numbers i) t) (of-small i (omega arith)))
+      (λ i k. omega (arith, pick-le-self (inWindow (releaseAt numbers i) (deadlineAt numbers i) t) (densityOf numbers i), of-small i (omega arith)))
 
   module _ (j : ℕ) (l : j < n) {sums : List ℕ} (s : DensitySums j numbers sums) where
     pub sums-can : CanAdd sums (releaseAt numbers j) (deadlineAt numbers j) (densityOf numbers j)

@@ -13,8 +13,8 @@ use Rattle.theory.specs.Row.{size-split}
 
 -- One ration ------------------------------------------------------------------------
 
--- Of c feedings in a window of k + o slots, o of them outside of a set, c − o are forced into it. In so many parts each,
--- spread with x parts to a slot, all of them have room in the window, and k × x parts of them are in the set.
+-- Of c feedings in a window of k + o slots, o of them outside of a set, c − o are forced into it. In so many parts
+-- each, spread with x parts to a slot, all of them have room in the window, and k × x parts of them are in the set.
 one-ration : (parts c k o x : ℕ) → c ≤ k + o → parts * c ≤ x * (k + o) → parts * (c - o) ≤ x * k
 one-ration parts c k o x fits spread = go (decLe parts x) (decLe o c)
   where

@@ -1,6 +1,8 @@
 // Rations spread evenly over their windows: the density of a ration is its volume divided by the length of its window.
 // Where the densities of the rations in whose windows a slot is add up to no more than the blowers, in every slot, a
 // sound placing exists (specs/SpreadLaws.antt). That takes no search, and says yes only where it is sure.
+use checks::limits::MAX_SLOTS;
+use line::layout::FIELDS;
 ghost use mathlib.Core.Path.{_≡_};
 ghost use Prim.Native.Nat.{_≤_, max};
 ghost use Rattle.checks.specs.Limits.{maxSlots};
@@ -11,39 +13,42 @@ ghost use Rattle.densities.specs.Densities.{density, CanAdd, DensitySums
 // A density is counted in so many parts of a feeding.
 pub const SCALE: u32 = 4096;
 
-// A ration's density, rounded up.
-fn density_of(volume: u32, length: u32) -> u32
-    requires { ⌜ (1 ≤ length) × (length ≤ maxSlots) × (volume ≤ length) ⌝ }
-    ensures { λ r. ⌜ r ≡ density volume length ⌝ }
+// The slots of the longest day.
+const SLOTS: usize = MAX_SLOTS as usize;
+
+// A ration's density, rounded up; `span` is how many slots its window has.
+fn density_of(volume: u32, span: u32) -> u32
+    requires { ⌜ (1 ≤ span) × (span ≤ maxSlots) × (volume ≤ span) ⌝ }
+    ensures { λ r. ⌜ r ≡ density volume span ⌝ }
 {
-    (SCALE * volume + (length - 1)) / length
+    (SCALE * volume + (span - 1)) / span
 }
 
-// Adds a ration's density in each slot of its window.
-fn add_density(sums: &mut [u32; 96], release: usize, deadline: usize, density: u32)
-    requires { ⌜ CanAdd (now sums) release deadline density ⌝ }
-    ensures { λ _. ⌜ Added density release deadline (now (sums .entry)) (now (sums .exit)) ⌝ }
+// Adds so many parts, a ration's density, in each slot of its window.
+fn add_density(sums: &mut [u32; SLOTS], release: usize, deadline: usize, parts: u32)
+    requires { ⌜ CanAdd (now sums) release deadline parts ⌝ }
+    ensures { λ _. ⌜ Added parts release deadline (now (sums .entry)) (now (sums .exit)) ⌝ }
 {
     let mut t = release - 1;
     while t < deadline {
-        sums[t] = sums[t] + density;
+        sums[t] = sums[t] + parts;
         t += 1;
     }
 }
 
 // The densities of n rations, added up slot by slot.
-fn density_sums(n: usize, numbers: &[u32; 256]) -> [u32; 96]
+fn density_sums(n: usize, numbers: &[u32; 256]) -> [u32; SLOTS]
     requires { ⌜ Rations maxSlots n (now numbers) ⌝ }
     ensures { λ r. ⌜ DensitySums n (now (numbers .entry)) r ⌝ }
 {
-    let mut sums = [0u32; 96];
+    let mut sums = [0u32; SLOTS];
     let mut j = 0;
     while j < n {
-        let at = 4 * j;
+        let at = FIELDS * j;
         let release = numbers[at + 1];
         let deadline = numbers[at + 2];
-        let density = density_of(numbers[at + 3], deadline + 1 - release);
-        add_density(&mut sums, release as usize, deadline as usize, density);
+        let parts = density_of(numbers[at + 3], deadline + 1 - release);
+        add_density(&mut sums, release as usize, deadline as usize, parts);
         j += 1;
     }
     sums
@@ -56,7 +61,7 @@ fn greater(a: u32, b: u32) -> u32
     if a < b { b } else { a }
 }
 
-// The greatest of the sums: no slot has more.
+// The greatest of the sums. What is promised is that no slot has more; that one has as much, nothing above rests on.
 pub fn greatest_density(n: usize, numbers: &[u32; 256]) -> u32
     requires { ⌜ Rations maxSlots n (now numbers) ⌝ }
     ensures { λ r. ⌜ DensityMost n (now (numbers .entry)) r ⌝ }
@@ -64,7 +69,7 @@ pub fn greatest_density(n: usize, numbers: &[u32; 256]) -> u32
     let sums = density_sums(n, numbers);
     let mut most = 0;
     let mut t = 0;
-    while t < 96 {
+    while t < SLOTS {
         most = greater(most, sums[t]);
         t += 1;
     }

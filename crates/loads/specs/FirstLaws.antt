@@ -1,4 +1,4 @@
--- How the first placing is made, a slot, a pass and a ration at a time. Assumes nothing.
+-- How the first placing, and one with other volumes, is made, a slot, a pass and a ration at a time. Assumes nothing.
 use mathlib.Core.Path.{_≡_, refl, sym, ap, _∙_}
 use mathlib.Core.Logic.{inl, ⊎-elim}
 use mathlib.Core.List.{List}
@@ -7,15 +7,15 @@ use native.Mathlib.Nat.{not-suc-le-zero}
 use native.Mathlib.Omega.{arith}
 use borrow.Author.Count.{below-more}
 use lib.Count.{ones-le}
-use lib.ListN.{set, replicate, length-set, length-replicate, getD-replicate}
+use lib.ListN.{length, set, replicate, length-set, length-replicate, getD-replicate}
 use lib.Seq.{getD-set-same, getD-set-other}
 use Rattle.loads.specs.Theory.{sum-cong, sum-split, sum-zero}
 use Rattle.common.specs.Bits.{bit, bit-lt, bit-le, bit-of-zero, sub-same}
-use Rattle.grid.specs.Grid.{slots, at, volume, Grid, ind}
+use Rattle.grid.specs.Grid.{slots, at, volume, Grid, Rearranged, ind}
 use Rattle.grid.specs.MarkLaws.{at-replicate, set-cases}
 use Rattle.grid.specs.MoveLaws.{ind-same, ind-other, volume-set, add-bits, sub-bits}
-use Rattle.loads.specs.ExchangeLaws.{volume-both}
-use Rattle.loads.specs.First.{rations, Fed, Tried, CanFeed, FedSlot, CanPass, FedPass, CanPlace, CanStart, Started}
+use Rattle.loads.specs.ExchangeLaws.{grid-exchange, volume-both}
+use Rattle.loads.specs.First.{rations, Fed, Tried, CanFeed, FedSlot, CanPass, FedPass, CanPlace, CanSet, FedIn, CanPlaceAgain, PlacedAgain, CanStart, Started}
 
 -- ---- feedings of one ration
 
@@ -147,11 +147,6 @@ volume-none : (R : List ℕ) (j : ℕ) → ((t : ℕ) → t < slots → bit (at 
 unfolding volume
 volume-none R j z = sum-cong z ∙ sum-zero slots
 
-volume-split : (W F R : List ℕ) (j : ℕ) → ((t : ℕ) → bit (at F t) j + bit (at R t) j ≡ bit (at W t) j) → volume W j ≡ volume F j + volume R j
-unfolding volume
-volume-split W F R j e =
-    sum-split slots (λ t. bit (at W t) j) (λ t. bit (at F t) j) (λ t. bit (at R t) j) (λ t l. sym (e t))
-
 module _ {F R H : List ℕ} {j v : ℕ} (p : CanPlace F R H j v) where
   module _ {left : ℕ} {F₁ R₁ : List ℕ} (a : FedPass j v left F R H F₁ R₁) where
     pub second-pass : CanPass F₁ R₁ (replicate slots beyond) j
@@ -189,65 +184,143 @@ module _ {F R H : List ℕ} {j v : ℕ} (p : CanPlace F R H j v) where
                 both .more,
                 a .counted,
                 b .counted,
-                p .none,
                 p .fits,
               ))
 
       pub ration-fed : Fed j v F R F′ R′
       ration-fed = let e : a .made + b .made ≡ v = omega (arith, a .counted, b .counted, nothing-left) in rw (← e) both
 
--- ---- all rations: the loop has come to ration j
+-- ---- another volume of one ration
 
-pub record Starting (W N F R : List ℕ) (j : ℕ) : Type 0 where
-  pub within : j ≤ rations
-  pub grid : Grid F R
-  pub words : (t : ℕ) → at F t + at R t ≡ at W t
-  pub bits : (i t : ℕ) → bit (at F t) i + bit (at R t) i ≡ bit (at W t) i
-  pub volumes : (i : ℕ) → i < j → volume F i ≡ at N i
-  pub none : (i : ℕ) → j ≤ i → volume F i ≡ 0
+module _ {F R H : List ℕ} {j old new : ℕ} (p : CanSet F R H j old new) where
+  -- a greater one: it is fed in so many slots more
+  pub more-fed : old ≤ new → CanPlace F R H j (new - old)
+  more-fed l = record { pass = p .pass; few = p .few; fits = omega (arith, p .before, p .fits) }
 
-module _ {W N H : List ℕ} (p : CanStart W N H) where
-  pub starting-none : Starting W N (replicate slots 0) W 0
-  starting-none =
+  pub set-more : {F′ R′ : List ℕ} → old ≤ new → Fed j (new - old) F R F′ R′ → FedIn j new F R F′ R′
+  set-more l f =
+      record { grid = f .grid; words = f .words; bits = f .bits; now = omega (arith, p .before, f .more); others = f .others }
+
+  -- a smaller one: on the exchanged words it is
+  pub more-at-rest : new < old → CanPlace R F H j (old - new)
+  more-at-rest l =
       record {
-        within = omega arith;
-        grid =
-            record {
-              fed = length-replicate {A = ℕ} slots 0;
-              rest = p .windows;
-              disjoint = λ t k. omega (arith, no-bit k t, bit-lt (at W t) k);
-            };
-        words = λ t. omega (arith, at-replicate slots t);
-        bits = λ i t. omega (arith, no-bit i t);
-        volumes = λ i l. absurd (not-suc-le-zero l);
-        none = λ i l. volume-none (replicate slots 0) i (λ t k. no-bit i t);
+        pass = record { grid = grid-exchange (p .pass .grid); highs = p .pass .highs; ration = p .pass .ration };
+        few = λ t. omega (arith, p .few t);
+        fits = omega (arith, p .before);
+      }
+
+  pub set-fewer : {F′ R′ : List ℕ} → new < old → Fed j (old - new) R F R′ F′ → FedIn j new F R F′ R′
+  set-fewer {F′} {R′} l f =
+      record {
+        grid = grid-exchange (f .grid);
+        words = λ t. omega (arith, f .words t);
+        bits = bits;
+        now = omega (arith, volume-both F R F′ R′ j (bits j), f .more, p .before);
+        others = λ i n. omega (arith, volume-both F R F′ R′ i (bits i), f .others i n);
       }
     where
-      no-bit : (i t : ℕ) → bit (at (replicate slots 0) t) i ≡ 0
-      no-bit i t = ap (λ (w : ℕ). bit w i) (at-replicate slots t) ∙ bit-of-zero i
+      bits : (i t : ℕ) → bit (at F′ t) i + bit (at R′ t) i ≡ bit (at F t) i + bit (at R t) i
+      bits i t = omega (arith, f .bits i t)
 
-  module _ {F R : List ℕ} {j : ℕ} (l : Starting W N F R j) where
-    pub starting-ration : j < rations → CanPlace F R H j (at N j)
-    starting-ration k =
+-- ---- all rations: the loop has come to ration j
+
+pub record PlacingAgain (N′ F₀ R₀ F R : List ℕ) (j : ℕ) : Type 0 where
+  pub within : j ≤ rations
+  pub grid : Grid F R
+  pub words : (t : ℕ) → at F t + at R t ≡ at F₀ t + at R₀ t
+  pub bits : (i t : ℕ) → bit (at F t) i + bit (at R t) i ≡ bit (at F₀ t) i + bit (at R₀ t) i
+  pub volumes : (i : ℕ) → i < j → volume F i ≡ at N′ i
+  pub before : (i : ℕ) → j ≤ i → volume F i ≡ volume F₀ i
+
+module _ {F₀ R₀ H N N′ : List ℕ} (p : CanPlaceAgain F₀ R₀ H N N′) where
+  pub again-none : PlacingAgain N′ F₀ R₀ F₀ R₀ 0
+  again-none =
+      record {
+        within = omega arith;
+        grid = p .grid;
+        words = λ t. refl;
+        bits = λ i t. refl;
+        volumes = λ i l. absurd (not-suc-le-zero l);
+        before = λ i l. refl;
+      }
+
+  module _ {F R : List ℕ} {j : ℕ} (l : PlacingAgain N′ F₀ R₀ F R j) where
+    pub again-ration : j < rations → CanSet F R H j (at N j) (at N′ j)
+    again-ration k =
         record {
           pass = record { grid = l .grid; highs = p .highs; ration = k };
           few = λ t. omega (arith, l .words t, p .few t);
-          none = l .none j (omega arith);
-          fits = omega (arith, p .fits j k, volume-split W F R j (l .bits j), l .none j (omega arith));
+          before = l .before j (omega arith) ∙ p .before j k;
+          fits = omega (arith, p .fits j k, volume-both F₀ R₀ F R j (l .bits j));
         }
 
-    pub starting-next : {F′ R′ : List ℕ} → j < rations → Fed j (at N j) F R F′ R′ → Starting W N F′ R′ (j + 1)
-    starting-next {F′} k f =
+    pub again-next : {F′ R′ : List ℕ} → j < rations → FedIn j (at N′ j) F R F′ R′ → PlacingAgain N′ F₀ R₀ F′ R′ (j + 1)
+    again-next {F′} k f =
         record {
           within = omega arith;
           grid = f .grid;
           words = λ t. f .words t ∙ l .words t;
           bits = λ i t. f .bits i t ∙ l .bits i t;
           volumes =
-              below-more (λ (i : ℕ). volume F′ i ≡ at N i) j (λ i m. f .others i (λ e. omega arith) ∙ l .volumes i m)
-              (omega (arith, f .more, l .none j (omega arith)));
-          none = λ i m. f .others i (λ e. omega arith) ∙ l .none i (omega arith);
+              below-more (λ (i : ℕ). volume F′ i ≡ at N′ i) j (λ i m. f .others i (λ e. omega arith) ∙ l .volumes i m) (f .now);
+          before = λ i m. f .others i (λ e. omega arith) ∙ l .before i (omega arith);
         }
 
-    pub started : rations ≤ j → Started W N F R
-    started k = record { grid = l .grid; words = l .words; bits = l .bits; volumes = λ i m. l .volumes i (omega arith) }
+    pub placed-again : rations ≤ j → PlacedAgain N′ F₀ R₀ F R
+    placed-again k = record { grid = l .grid; words = l .words; bits = l .bits; volumes = λ i m. l .volumes i (omega arith) }
+
+-- ---- from windows and volumes
+
+volume-split : (W F R : List ℕ) (j : ℕ) → ((t : ℕ) → bit (at F t) j + bit (at R t) j ≡ bit (at W t) j) → volume W j ≡ volume F j + volume R j
+unfolding volume
+volume-split W F R j e =
+    sum-split slots (λ t. bit (at W t) j) (λ t. bit (at F t) j) (λ t. bit (at R t) j) (λ t l. sym (e t))
+
+-- another placing of the same rations
+pub started-moved : {W N F R F′ R′ : List ℕ} → Started W N F R → Rearranged F R F′ R′ → Started W N F′ R′
+started-moved s m =
+    record {
+      grid = m .grid;
+      words = λ t. m .words t ∙ s .words t;
+      bits = λ j t. m .bits j t ∙ s .bits j t;
+      volumes = λ j l. m .volumes j ∙ s .volumes j l;
+    }
+
+-- from volumes N to volumes N′
+pub can-place-again : {W N N′ H F R : List ℕ} → Started W N F R → CanStart W N′ H → CanPlaceAgain F R H N N′
+can-place-again {W} {F = F} {R} s p =
+    record {
+      grid = s .grid;
+      highs = p .highs;
+      few = λ t. omega (arith, s .words t, p .few t);
+      before = s .volumes;
+      fits = λ j l. omega (arith, p .fits j l, volume-split W F R j (s .bits j));
+    }
+
+pub started-again : {W N N′ F R F′ R′ : List ℕ} → Started W N F R → PlacedAgain N′ F R F′ R′ → Started W N′ F′ R′
+started-again s r =
+    record {
+      grid = r .grid;
+      words = λ t. r .words t ∙ s .words t;
+      bits = λ j t. r .bits j t ∙ s .bits j t;
+      volumes = r .volumes;
+    }
+
+-- nothing is fed
+pub started-none : {W : List ℕ} → length W ≡ slots → Started W (replicate rations 0) (replicate slots 0) W
+started-none {W} l =
+    record {
+      grid =
+          record {
+            fed = length-replicate {A = ℕ} slots 0;
+            rest = l;
+            disjoint = λ t k. omega (arith, no-bit k t, bit-lt (at W t) k);
+          };
+      words = λ t. omega (arith, at-replicate slots t);
+      bits = λ j t. omega (arith, no-bit j t);
+      volumes = λ j k. volume-none (replicate slots 0) j (λ t m. no-bit j t) ∙ sym (at-replicate rations j);
+    }
+  where
+    no-bit : (i t : ℕ) → bit (at (replicate slots 0) t) i ≡ 0
+    no-bit i t = ap (λ (w : ℕ). bit w i) (at-replicate slots t) ∙ bit-of-zero i

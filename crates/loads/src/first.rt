@@ -1,9 +1,10 @@
-// The first placing: each ration is fed in slots of its window that have room below their highs, and where too few have, in any others of its
-// window. So only a feeding that does not fit straight away asks for a search later.
+// The first placing: each ration is fed in slots of its window that have room below their highs, and where too few
+// have, in any others of its window. So only a feeding that does not fit straight away asks for a search later. Another
+// placing of the same windows with other volumes is made from one that is there.
 ghost use mathlib.Core.Path.{_≡_};
 ghost use lib.Dec.{eqb};
 ghost use Rattle.common.specs.Bits.{bit};
-ghost use Rattle.loads.specs.First.{CanFeed, FedSlot, CanPass, FedPass, CanPlace, Fed, CanStart, Started};
+ghost use Rattle.loads.specs.First.{CanFeed, FedSlot, CanPass, FedPass, CanPlace, Fed, CanSet, FedIn, CanPlaceAgain, PlacedAgain, CanStart, Started};
 use crate::RATIONS;
 use grid::SLOTS;
 use grid::search;
@@ -11,7 +12,8 @@ use grid::search;
 // More than any slot can hold: all have room below it.
 const BEYOND: u8 = RATIONS as u8 + 1;
 
-// Feeds ration j in slot t if it may, if the slot has room below `high`, and if some of its feedings are left to make; gives how many then are.
+// Feeds ration j in slot t if it may, if the slot has room below `high`, and if some of its feedings are left to make;
+// gives how many then are.
 fn feed_slot(
     fed: &mut [u64; SLOTS],
     rest: &mut [u64; SLOTS],
@@ -62,23 +64,60 @@ fn feed_pass(
     n
 }
 
-// Feeds ration j in `volume` slots of its window, first where there is room.
+// Feeds ration j in so many slots more of its window, first where there is room.
 fn feed_ration(
     fed: &mut [u64; SLOTS],
     rest: &mut [u64; SLOTS],
     high: &[u8; SLOTS],
     j: u32,
-    volume: u8,
+    more: u8,
 )
-    requires { ⌜ CanPlace (now fed) (now rest) (now high) j volume ⌝ }
-    ensures { λ _. ⌜ Fed j volume (now (fed .entry)) (now (rest .entry)) (now (fed .exit)) (now (rest .exit)) ⌝ }
+    requires { ⌜ CanPlace (now fed) (now rest) (now high) j more ⌝ }
+    ensures { λ _. ⌜ Fed j more (now (fed .entry)) (now (rest .entry)) (now (fed .exit)) (now (rest .exit)) ⌝ }
 {
-    let left = feed_pass(fed, rest, high, j, volume);
+    let left = feed_pass(fed, rest, high, j, more);
     let any = [BEYOND; SLOTS];
     feed_pass(fed, rest, &any, j, left);
 }
 
-// Places every ration: bit j of `windows[t]` says that slot t is in the window of ration j, `volumes[j]` in how many slots it is fed.
+// Brings ration j from its old volume to a new one. Where that is smaller, it rests in so many slots more, which is to
+// feed it in them on the exchanged words.
+fn set_volume(
+    fed: &mut [u64; SLOTS],
+    rest: &mut [u64; SLOTS],
+    high: &[u8; SLOTS],
+    j: u32,
+    old: u8,
+    new: u8,
+)
+    requires { ⌜ CanSet (now fed) (now rest) (now high) j old new ⌝ }
+    ensures { λ _. ⌜ FedIn j new (now (fed .entry)) (now (rest .entry)) (now (fed .exit)) (now (rest .exit)) ⌝ }
+{
+    if old <= new {
+        feed_ration(fed, rest, high, j, new - old);
+    } else {
+        feed_ration(rest, fed, high, j, old - new);
+    }
+}
+
+// Brings every ration from its old volume to its new one, and leaves all other feedings where they are.
+pub fn place_again(
+    fed: &mut [u64; SLOTS],
+    rest: &mut [u64; SLOTS],
+    high: &[u8; SLOTS],
+    old: &[u8; RATIONS],
+    new: &[u8; RATIONS],
+)
+    requires { ⌜ CanPlaceAgain (now fed) (now rest) (now high) (now old) (now new) ⌝ }
+    ensures { λ _. ⌜ PlacedAgain (now (new .entry)) (now (fed .entry)) (now (rest .entry)) (now (fed .exit)) (now (rest .exit)) ⌝ }
+{
+    for j in 0..RATIONS {
+        set_volume(fed, rest, high, j as u32, old[j], new[j]);
+    }
+}
+
+// Places every ration: bit j of `windows[t]` says that slot t is in the window of ration j, `volumes[j]` in how many
+// slots it is fed.
 pub fn place_first(
     windows: &[u64; SLOTS],
     volumes: &[u8; RATIONS],
@@ -92,7 +131,6 @@ pub fn place_first(
     let all = *windows;
     *fed = [0; SLOTS];
     *rest = all;
-    for j in 0..RATIONS {
-        feed_ration(fed, rest, high, j as u32, volumes[j]);
-    }
+    let none = [0u8; RATIONS];
+    place_again(fed, rest, high, &none, volumes);
 }

@@ -10,12 +10,14 @@ use lib.Count.{ones, ones-le}
 use lib.ListN.{length, getD, replicate, length-replicate, getD-replicate}
 use Rattle.grid.specs.Grid.{at, load, Reach, here, step}
 use Rattle.loads.specs.Relief.{Relieved, Widths}
-use Rattle.loads.specs.First.{Started}
+use Rattle.loads.specs.First.{Started, PlacedAgain}
 use Rattle.loads.specs.Meaning.{Places, seenAt}
 use Rattle.loads.specs.MeaningLaws.{count-load, places-placing, places-moved}
 use Rattle.loads.specs.HeldLaws.{words-closed}
+use Rattle.loads.specs.FirstLaws.{started-none, started-moved, started-again}
 use Rattle.loads.specs.StartLaws.{relieved-state, relieved-critical, relieved-none, started-places}
 use Rattle.common.specs.Tests.{false-of-not-true}
+use Rattle.checks.specs.Limits.{maxSlots, maxRations}
 use Rattle.theory.specs.SumsOver.{on-cong}
 use Rattle.theory.specs.Critical.{critical-highs}
 use Rattle.schedules.specs.Schedules.{Demand, volumeOf, feasible}
@@ -25,7 +27,7 @@ use Rattle.schedules.specs.CriticalLaws.{critical-as}
 use Rattle.schedules.specs.Tabulate.{tab}
 use Rattle.schedules.specs.AsFunctions.{free, sound-bounded}
 use Rattle.schedules.specs.Certificates.{closed-forced}
-use Rattle.placing.specs.Represents.{Represents, DemandWords, HighWords, Begun, marksOf, markedLoads}
+use Rattle.placing.specs.Represents.{Represents, DemandWords, HighWords, Begun, Holds, BegunAgain, marksOf, markedLoads}
 use Rattle.placing.specs.StepLaws.{state-bounds, represents-feasible}
 
 -- only from itself does one come to a slot in which nothing rests
@@ -97,3 +99,13 @@ module _ {W N F R H F′ R′ C′ S′ : List ℕ} {r : Bool} (h : length H ≡
         marked = λ e slots ds high d g. marked slots ds high d g e;
         counted = λ e slots ds high d g. counted slots ds high d g e;
       }
+
+-- with other volumes
+pub begun-again : {N N′ H F R F₁ R₁ F′ R′ C′ S′ : List ℕ} {r : Bool} → length H ≡ 96 → PlacedAgain N′ F R F₁ R₁ → Relieved r F₁ R₁ H F′ R′ S′
+    → Widths F′ R′ C′ → BegunAgain r N N′ H F R F′ R′ C′ S′
+begun-again h p w c =
+    record { holds = λ W s. started-moved (started-again s p) (w .moved); begun = λ W s. begun h (started-again s p) w c }
+
+-- words in which nothing is fed hold the windows with no volume
+pub holds-none : {W : List ℕ} → length W ≡ maxSlots → Holds W (replicate maxRations 0) (replicate maxSlots 0) W
+holds-none = started-none

@@ -1,4 +1,5 @@
--- What a reading gives this layer: the first refusal, or rations in range that ask what the sheet's rations ask. Assumes nothing.
+-- What a reading gives this layer: the first refusal, or rations in range that ask what the sheet's rations ask.
+-- Assumes nothing.
 use mathlib.Core.Path.{_≡_, refl, sym, subst, _∙_}
 use mathlib.Core.Bool.{true}
 use mathlib.Core.List.{List}

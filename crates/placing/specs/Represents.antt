@@ -1,5 +1,6 @@
--- The words that this layer lends to those above: what they hold, without saying how. F and R are the grid, H the highs and C the spares that go with
--- the lows, S the marks; with a stroke, as they are afterwards. Definitions only. Assumes nothing.
+-- The words that this layer lends to those above: what they hold, without saying how. F and R are the grid, H the highs
+-- and C the spares that go with the lows, S the marks; with a stroke, as they are afterwards. Definitions only. Assumes
+-- nothing.
 use mathlib.Core.Path.{_≡_}
 use mathlib.Core.Logic.{_≢_}
 use mathlib.Core.Bool.{Bool, true, false}
@@ -11,7 +12,7 @@ use Rattle.common.specs.Lists.{count}
 use Rattle.grid.specs.Grid.{at, load}
 use Rattle.loads.specs.Relief.{CanLower}
 use Rattle.loads.specs.Meaning.{State, Given, seenAt}
-use Rattle.loads.specs.First.{CanStart}
+use Rattle.loads.specs.First.{CanStart, Started}
 use Rattle.theory.specs.SumsOver.{sumOn}
 use Rattle.schedules.specs.Schedules.{Demand, Windows, windowOf, volumeOf, feasible}
 use Rattle.schedules.specs.Shortfall.{forced, criticalSet}
@@ -37,7 +38,8 @@ lowered high t k = set high t (min (k - 1) (bound high t))
 abbrev pub raised : List ℕ → ℕ → ℕ → List ℕ
 raised low t k = set low t (max k (bound low t))
 
--- `idle` answers whether a sound placing exists with the high of slot t at most k − 1, and leaves one under the bounds kept
+-- `idle` answers whether a sound placing exists with the high of slot t at most k − 1, and leaves one under the bounds
+-- kept
 pub record Idled (r : Bool) (F R H C F′ R′ H′ : List ℕ) (t k : ℕ) : Type 0 where
   pub others : (u : ℕ) → u ≢ t → getD H′ u 0 ≡ getD H u 0
   pub answer : (slots : ℕ) (ds : List Demand) (low high : List ℕ) → Represents slots ds low high F R H C → t < slots → r ≡ feasible slots ds low (lowered high t k)
@@ -54,7 +56,8 @@ pub record Busied (r : Bool) (F R H C F′ R′ C′ : List ℕ) (t k : ℕ) : T
   pub no : r ≡ false → (slots : ℕ) (ds : List Demand) (low high : List ℕ) → Represents slots ds low high F R H C → t < slots
       → Represents slots ds low high F′ R′ H C′
 
--- W and N are the words of the demands: bit j of word t says that slot t is in the window of demand j, N j is its volume; nothing else is in them
+-- W and N are the words of the demands: bit j of word t says that slot t is in the window of demand j, N j is its
+-- volume; nothing else is in them
 pub record DemandWords (slots : ℕ) (ds : List Demand) (W N : List ℕ) : Type 0 where
   pub windows : Windows slots ds
   pub given : Given (length ds) slots (free ds) (volumeOf ds) W N
@@ -85,8 +88,8 @@ pub record CanBegin (W N H C : List ℕ) : Type 0 where
   pub start : CanStart W N H
   pub spares : length C ≡ 96
 
--- `begin` answers whether a sound placing within the highs exists, and leaves one; or it marks the set contained in every set of greatest shortfall, and
--- leaves a placing whose feedings in that set are what is forced into it
+-- `begin` answers whether a sound placing within the highs exists, and leaves one; or it marks the set contained in
+-- every set of greatest shortfall, and leaves a placing whose feedings in that set are what is forced into it
 pub record Begun (r : Bool) (W N H F′ R′ C′ S′ : List ℕ) : Type 0 where
   pub fed-long : length F′ ≡ 96
   pub marks-long : r ≡ false → length S′ ≡ 96
@@ -99,3 +102,21 @@ pub record Begun (r : Bool) (W N H F′ R′ C′ S′ : List ℕ) : Type 0 wher
       → criticalSet slots ds high ≡ tab slots (marksOf S′)
   pub counted : r ≡ false → (slots : ℕ) (ds : List Demand) (high : List ℕ) → DemandWords slots ds W N → HighWords slots high H
       → forced ds (criticalSet slots ds high) ≡ markedLoads slots F′ S′
+
+-- the words hold a placing of the windows W with the volumes N, whatever the loads of the slots are
+abbrev pub Holds : (W N F R : List ℕ) → Type 0
+Holds = Started
+
+-- what `begin_again` requires: the words hold a placing with the volumes N, and each volume of N′ is at most its
+-- window's length
+pub record CanBeginAgain (N N′ H F R C : List ℕ) : Type 0 where
+  pub windows : List ℕ
+  pub holds : Holds windows N F R
+  pub start : CanStart windows N′ H
+  pub spares : length C ≡ 96
+
+-- what it ensures: of the windows that the words had, what `begin` ensures; and the words hold a placing with the
+-- volumes N′, within the highs or not
+pub record BegunAgain (r : Bool) (N N′ H F R F′ R′ C′ S′ : List ℕ) : Type 0 where
+  pub holds : (W : List ℕ) → Holds W N F R → Holds W N′ F′ R′
+  pub begun : (W : List ℕ) → Holds W N F R → Begun r W N′ H F′ R′ C′ S′

@@ -1,5 +1,5 @@
--- Windows in words and volumes in bytes, as the search takes them: bit j of word t says that slot t is in the window of demand j. Rations and slots
--- are counted from 0. Definitions only. Assumes nothing.
+-- Windows in words and volumes in bytes, as the search takes them: bit j of word t says that slot t is in the window of
+-- demand j. Rations and slots are counted from 0. Definitions only. Assumes nothing.
 use mathlib.Core.Path.{_≡_}
 use mathlib.Core.Bool.{Bool, _&&_}
 use mathlib.Core.List.{List}

@@ -1,13 +1,14 @@
 // The first sound placing of a day, or the slots that show why there is none.
 ghost use mathlib.Core.Path.{_≡_};
 ghost use Prim.Native.Nat.{_≤_};
-ghost use Rattle.placing.specs.Represents.{CanBegin, Begun};
+ghost use Rattle.placing.specs.Represents.{CanBegin, Begun, CanBeginAgain, BegunAgain};
 use loads::first;
 use loads::relief;
 
-// Places every ration within the highs, and says whether that can be done. Bit j of `windows[t]` says that slot t is in the window of ration j,
-// `volumes[j]` in how many slots it is to be fed. Where it can't be done, the marks are left on the slots contained in every set of greatest shortfall. A
-// search is made only for a feeding that does not fit straight away, and none is repeated from a slot where one failed.
+// Places every ration within the highs, and says whether that can be done. Bit j of `windows[t]` says that slot t is in
+// the window of ration j, `volumes[j]` in how many slots it is to be fed. Where it can't be done, the marks are left on
+// the slots contained in every set of greatest shortfall. A search is made only for a feeding that does not fit
+// straight away, and none is repeated from a slot where one failed.
 pub fn begin(
     windows: &[u64; 96],
     volumes: &[u8; 64],
@@ -22,6 +23,28 @@ pub fn begin(
         (now (fed .exit)) (now (rest .exit)) (now (spare .exit)) (now (seen .exit)) ⌝ }
 {
     first::place_first(windows, volumes, high, fed, rest);
+    let within = relief::relieve(fed, rest, high, seen);
+    relief::widths(fed, rest, spare);
+    within
+}
+
+// The same of the same windows with other volumes, from whatever placing with the volumes `old` the words hold: only
+// what is more or less of each ration is fed or taken out, and all other feedings stay where they are until a search
+// moves them. Where it can't be done, the words hold a placing with these volumes all the same.
+pub fn begin_again(
+    old: &[u8; 64],
+    volumes: &[u8; 64],
+    high: &[u8; 96],
+    fed: &mut [u64; 96],
+    rest: &mut [u64; 96],
+    spare: &mut [u8; 96],
+    seen: &mut [u8; 96],
+) -> bool
+    requires { ⌜ CanBeginAgain (now old) (now volumes) (now high) (now fed) (now rest) (now spare) ⌝ }
+    ensures { λ r. ⌜ BegunAgain r (now (old .entry)) (now (volumes .entry)) (now (high .entry)) (now (fed .entry)) (now (rest .entry))
+        (now (fed .exit)) (now (rest .exit)) (now (spare .exit)) (now (seen .exit)) ⌝ }
+{
+    first::place_again(fed, rest, high, old, volumes);
     let within = relief::relieve(fed, rest, high, seen);
     relief::widths(fed, rest, spare);
     within

@@ -115,19 +115,21 @@ module _ {slots : ℕ} {ds : List Demand} (w : Windows slots ds) (high : List �
   low-none q e =
       sumOver-as noLow q (length-replicate slots 0) e ∙ on-cong (λ t l. refl) (λ t l. getD-replicate slots t 0 0 l) ∙ on-zero slots (has q)
 
-  -- where the critical set is not forced over its capacity, no set is an obstacle to the highs
-  critical-no-obstacle : forced ds (criticalSet slots ds high) ≤ capacity high (criticalSet slots ds high) → NoObstacle slots ds noLow high
+  -- where into no set more is forced than its capacity, a sound placing within the highs exists
+  pub within-capacity : ((q : Slots) → length q ≡ slots → forced ds q ≤ capacity high q) → feasible slots ds noLow high ≡ true
   unfolding shortfall excess
-  critical-no-obstacle k = record {
-    ordered = λ t l. let z : getD noLow t 0 ≡ 0 = getD-replicate slots t 0 0 l in omega arith;
-    no-shortfall = λ q e. sub-le-zero (forced ds q) (capacity high q) .1 (omega (arith, critical-top q e));
-    no-excess = λ q e. sub-le-zero (sumOver noLow q) (possible ds q) .1 (omega (arith, low-none q e));
-  }
+  within-capacity k =
+      let o : NoObstacle slots ds noLow high = record {
+        ordered = λ t l. let z : getD noLow t 0 ≡ 0 = getD-replicate slots t 0 0 l in omega arith;
+        no-shortfall = λ q e. sub-le-zero (forced ds q) (capacity high q) .1 (k q e);
+        no-excess = λ q e. sub-le-zero (sumOver noLow q) (possible ds q) .1 (omega (arith, low-none q e));
+      } in
+      sound-feasible w (length-replicate slots 0) h (no-obstacle-sound w (length-replicate slots 0) h o .1)
 
+  -- where none exists, more is forced into the critical set than its capacity
   pub infeasible-critical : feasible slots ds noLow high ≡ false
       → capacity high (criticalSet slots ds high) < forced ds (criticalSet slots ds high)
   infeasible-critical e =
-      let no : ¬ (forced ds (criticalSet slots ds high) ≤ capacity high (criticalSet slots ds high)) = λ k. (
-      let s = no-obstacle-sound w (length-replicate slots 0) h (critical-no-obstacle k) in
-      false≢true (sym e ∙ sound-feasible w (length-replicate slots 0) h (s .1))) in
+      let no : ¬ (forced ds (criticalSet slots ds high) ≤ capacity high (criticalSet slots ds high)) = λ k.
+      false≢true (sym e ∙ within-capacity (λ q l. omega (arith, critical-top q l))) in
       omega arith

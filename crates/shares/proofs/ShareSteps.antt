@@ -15,7 +15,7 @@ use Rattle.sheet.specs.OwnChecks.{ReadFrom, SomeReading, ReadSheet}
 use Rattle.sheet.specs.OwnCheckLaws.{refused-before, accepted-before, not-held}
 use Rattle.cuts.specs.Cuts.{maxShare, cutSheet, greatestShare}
 use Rattle.cuts.specs.Theorems.{share-most}
-use Rattle.cuts.specs.ReadLaws.{cut-read}
+use Rattle.cuts.specs.ReadLaws.{cut-read, cut-some}
 use Rattle.cuts.specs.Contracts.{CutFrom, ShareFound}
 use Rattle.planning.specs.declared.Planned.{Planned}
 use Rattle.planning.specs.Problem.{alone, listingOf, wordsFor}
@@ -60,8 +60,8 @@ module _ (b : List ℕ) {r : Reading} (h : ReadFrom (faults b) (sheetOf b) r) wh
     read : r .number ≡ 0 → {x : Reading} → CutFrom share r x → ReadFrom [] (cutSheet share (sheetOf b)) x
     read z cut = cut-read h z share share-within (cut (faults b) (sheetOf b) h)
 
-    pub cut-some : r .number ≡ 0 → {x : Reading} → CutFrom share r x → SomeReading x
-    cut-some z cut = record { own = []; sheet = cutSheet share (sheetOf b); read = read z cut }
+    pub cut-reading : r .number ≡ 0 → {x : Reading} → CutFrom share r x → SomeReading x
+    cut-reading z cut = cut-some (share-read z) share share-within cut
 
 -- The answer -----------------------------------------------------------------------------
 

@@ -57,7 +57,7 @@ pick-le : {q : Bool} {x y : ℕ} → (q ≡ true → x ≤ y) → pick q x ≤ p
 pick-le {q = true} h = h refl
 pick-le {q = false} h = omega arith
 
-pick-le-self : (q : Bool) (x : ℕ) → pick q x ≤ x
+pub pick-le-self : (q : Bool) (x : ℕ) → pick q x ≤ x
 pick-le-self true x = omega arith
 pick-le-self false x = omega arith
 

@@ -42,18 +42,21 @@ pub enum Kind {
     OverloadedWholeDay,
     /// Such a mixed sheet. Held.
     OverloadedMixed,
+    /// Windows of up to a sixth of the day, or up to half of it, and at least half of each window asked for. Held.
+    OverloadedShort,
 }
 
 pub const KINDS: [Kind; 4] = [Kind::WholeDay, Kind::Mixed, Kind::Tight, Kind::Held];
 
 /// Those that rations are cut on: some fit, some lack little, and some ask for a multiple of what can be fed.
-pub const SHARE_KINDS: [Kind; 6] = [
+pub const SHARE_KINDS: [Kind; 7] = [
     Kind::WholeDay,
     Kind::Mixed,
     Kind::Tight,
     Kind::Held,
     Kind::OverloadedWholeDay,
     Kind::OverloadedMixed,
+    Kind::OverloadedShort,
 ];
 
 impl Kind {
@@ -65,6 +68,7 @@ impl Kind {
             Kind::Held => "held",
             Kind::OverloadedWholeDay => "overloaded-whole-day",
             Kind::OverloadedMixed => "overloaded-mixed",
+            Kind::OverloadedShort => "overloaded-short",
         }
     }
 
@@ -87,6 +91,7 @@ fn one(kind: Kind, sizes: Sizes, draws: &mut Draws) -> Sheet {
         Kind::Held => held(sizes, draws),
         Kind::OverloadedWholeDay => overloaded(whole_day, sizes, draws),
         Kind::OverloadedMixed => overloaded(mixed, sizes, draws),
+        Kind::OverloadedShort => overloaded_short(sizes, draws),
     }
 }
 
@@ -207,6 +212,24 @@ fn held(sizes: Sizes, draws: &mut Draws) -> Sheet {
             if shown_set(&sheet).is_some() {
                 return sheet;
             }
+        }
+    }
+}
+
+fn overloaded_short(sizes: Sizes, draws: &mut Draws) -> Sheet {
+    let slots = sizes.slots;
+    loop {
+        let longest = draws.between(slots.div_ceil(6), slots.div_ceil(2));
+        let windows = (0..sizes.rations).map(|_| {
+            let length = draws.between(slots.div_ceil(24), longest);
+            let first = draws.between(1, slots - length + 1);
+            let volume = draws.between(length.div_ceil(2), length);
+            (first, first + length - 1, volume)
+        });
+        let windows = windows.collect();
+        let sheet = sheet(sizes, draws, windows);
+        if shown_set(&sheet).is_some() {
+            return sheet;
         }
     }
 }

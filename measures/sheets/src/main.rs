@@ -8,8 +8,8 @@ use std::process::ExitCode;
 
 const USAGE: &str = "usage: sheets KIND COUNT SEED [SLOTS BLOWERS RATIONS]
        sheets mixture COUNT
-KIND is whole-day, mixed, tight, held, overloaded-whole-day or overloaded-mixed; a mixture has sheets of all kinds in
-turn, well-formed or not.";
+KIND is whole-day, mixed, tight, held, overloaded-whole-day, overloaded-mixed or overloaded-short; a mixture has sheets
+of all kinds in turn, well-formed or not.";
 
 /// Sheets of every kind of the mixture, one after another.
 fn mixed_up(count: usize) -> Vec<Vec<u8>> {

@@ -1,7 +1,7 @@
 -- `cuts::search::spread_share` meets its contract. Assumes nothing.
 use Rattle.placing.specs.RationLaws.{rations-longest}
 use Rattle.cuts.specs.Cuts.{maxShare}
-use Rattle.cuts.specs.SpreadShares.{spread-placing}
+use Rattle.cuts.specs.SpreadShareLaws.{spread-placing}
 use Rattle.cuts.proofs.SearchSteps.{sheet-rations, few-blowers, share-of}
 use native.Mathlib.Omega.{arith}
 use borrow.Author.Needs.{needs}

@@ -1,4 +1,5 @@
--- `placing::windows::mark_window` meets its contract: after t slots those of the window before slot t have the bit. Assumes nothing.
+-- `placing::windows::mark_window` meets its contract: after t slots those of the window before slot t have the bit.
+-- Assumes nothing.
 use Prim.Native.Nat.{_-_, _^_}
 use Rattle.placing.specs.WindowSteps.{AddedTo, add-begin, mark-bit, add-next, add-end}
 use native.Mathlib.Omega.{arith}

@@ -5,7 +5,7 @@ use Rattle.common.specs.Tests.{or-left, or-right}
 use Rattle.sheet.specs.OwnCheckLaws.{bytes-read}
 use Rattle.planning.specs.Planning.{shortPlan, shortPlacing}
 use Rattle.planning.specs.CallAnswers.{short-plan, room-plan, tested-placing, room-placing, neither}
-use Rattle.shares.proofs.ShareSteps.{share-refused, share-short, share-read, share-within, cut-some, share-done}
+use Rattle.shares.proofs.ShareSteps.{share-refused, share-short, share-read, share-within, cut-reading, share-done}
 use borrow.Author.Needs.{needs}
 use Rattle.shares.proofs.calls.plan_share.Statement.{statement}
 use Rattle.shares.proofs.calls.plan_share.Tie as tie
@@ -44,7 +44,7 @@ cut-sheet-requires : tie.Need-cut-sheet-requires
 cut-sheet-requires c κs = (share-read (c .before .before .before .before .before .before .before .before .before .args .b .now) (bytes-read _ (c .before .before .before .before .before .read .ensures)) (c .before .before .before .if1 .left), share-within (c .before .before .before .before .before .before .before .before .before .args .b .now) (bytes-read _ (c .before .before .before .before .before .read .ensures)) (c .greatest-share .ensures))
 
 plan-both-of-requires : tie.Need-plan-both-of-requires
-plan-both-of-requires c κs = cut-some (c .before .before .before .before .before .before .before .before .before .before .before .before .args .b .now) (bytes-read _ (c .before .before .before .before .before .before .before .before .read .ensures)) (c .before .before .before .greatest-share .ensures) (c .before .before .before .before .before .before .if1 .left) (c .before .before .cut-sheet .ensures)
+plan-both-of-requires c κs = cut-reading (c .before .before .before .before .before .before .before .before .before .before .before .before .args .b .now) (bytes-read _ (c .before .before .before .before .before .before .before .before .read .ensures)) (c .before .before .before .greatest-share .ensures) (c .before .before .before .before .before .before .if1 .left) (c .before .before .cut-sheet .ensures)
 
 same-length : tie.Need-same-length
 same-length c = search needs

@@ -1,10 +1,10 @@
--- `cuts::search::least_short` meets its contract. From the upper of the two ends on no share has a placing. Assumes
+-- `cuts::search::least_deficient` meets its contract. From the upper of the two ends on no share has a placing. Assumes
 -- nothing.
 use Prim.Native.Nat.{_-_, _≤_, _<_}
 use Rattle.cuts.specs.Contracts.{ReadNone}
 use native.Mathlib.Omega.{arith}
-use Rattle.cuts.proofs.search.least_short.Statement.{statement}
-use Rattle.cuts.proofs.search.least_short.Tie as tie
+use Rattle.cuts.proofs.search.least_deficient.Statement.{statement}
+use Rattle.cuts.proofs.search.least_deficient.Tie as tie
 
 abbrev Inv-loop : tie.InvT-loop
 Inv-loop low high sheet marks least₀ most₀ least most = ReadNone sheet most × (low ≤ least) × (least < most) × (most ≤ high)
@@ -30,7 +30,7 @@ loop-again c = let e = c .halve .ensures in (e .0, omega arith, omega arith, ome
 returns : tie.Need-returns Inv-loop μ-loop
 returns c = (c .before .loop .inv .0, omega arith, omega arith)
 
-pub least-short-spec : {M : Type 1} → statement M
-least-short-spec =
+pub least-deficient-spec : {M : Type 1} → statement M
+least-deficient-spec =
     tie.close
     (tie.spec Inv-loop μ-loop loop-holds add-loop halve-requires loop-less loop-again returns)

@@ -22,6 +22,7 @@ use Rattle.schedules.specs.DemandLaws.{DemandsInRange, demandsOf-inRange}
 use Rattle.schedules.specs.Tabulate.{count-size}
 use Rattle.schedules.specs.WindowLaws.{has-window, count-window}
 use Rattle.schedules.specs.AsFunctions.{free, bound, forced-as, sumOver-as}
+use Rattle.schedules.specs.CriticalLaws.{within-capacity}
 use Rattle.placing.specs.Rations.{releaseAt, deadlineAt, volumeAt}
 use Rattle.placing.specs.Words.{inWindow}
 use Rattle.placing.specs.RationLaws.{length-demandsFrom, windowOf-demandsFrom, volumeOf-demandsFrom}
@@ -30,9 +31,8 @@ use Rattle.densities.specs.Densities.{scale, densityOf, densityAt, DensityMost}
 use Rattle.densities.specs.DensityLaws.{density-covers}
 use Rattle.densities.specs.SpreadLaws.{forced-within}
 use Rattle.cuts.specs.Cuts.{maxShare, cutVolume, cutSheet, hasPlacing}
-use Rattle.cuts.specs.FewerLaws.{within-capacity}
 use Rattle.cuts.specs.ShareLaws.{cut-in-range}
-use Rattle.cuts.specs.CutDemands.{windows-cut, length-cut, volumes-cut}
+use Rattle.cuts.specs.CutDemandLaws.{windows-cut, length-cut, volumes-cut}
 
 -- 100 × 4,096 parts of a cut volume are at most those of its density, times the share, in its window's slots
 cut-covers : (share v x l : ℕ) → scale * v ≤ x * l → maxShare * scale * cutVolume share v ≤ share * x * l
