@@ -266,11 +266,12 @@ kiwimound_planned kiwimound_plan_placing(const uint8_t *sheet, size_t sheet_leng
 kiwimound_planned kiwimound_plan_both(const uint8_t *sheet, size_t sheet_length, uint8_t *listing,
                                       size_t listing_length, uint64_t *placing, size_t placing_words);
 
-/* Plans a sheet with its rations equally cut, so that one that would be held has a plan too: each volume becomes
- * volume * share / 100, rounded down, with the greatest share from 0 to 100 for which a plan exists. Refusals 1 to 9
- * and 13, then 10 if either buffer is too short, and neither is changed; 12 is never given. Number 0 writes the plan of
- * the cut sheet into both buffers as kiwimound_plan_both does. Its listing has no line for the share, and parts count
- * what is fed. A ration that is cut to 0 stays on the sheet and is not fed, so that those after it keep their bits.
+/* Plans a sheet with its rations equally cut, so that one that would be held has a plan too. At a share of s, from 0 to
+ * 100, of each ration the whole part of volume * s / 100 is left; the share taken is the greatest that has a plan.
+ * Refusals 1 to 9 and 13, then 10 if either buffer is too short, and neither is changed; 12 is never given. Number 0
+ * writes the plan of the cut sheet into both buffers as kiwimound_plan_both does. The share stands in the answer alone
+ * and not in the listing, and parts count what is fed. A ration of which 0 is left is fed in no slot; those after it
+ * keep their bits.
  *
  * A sheet that has a plan as it is has share 100, and kiwimound_plan_both writes the same. No volume is above 96, so
  * that share 1 cuts all to 0: on number 0 the share is 1 to 100, and 0 says that the sheet was refused. */

@@ -27,8 +27,8 @@ static bool read_sheet(const char *path, uint8_t sheet[SHEET_ROOM], size_t *leng
     return is_read;
 }
 
-/* The status of a program that ends with this one if all that it printed is written, and with 2 otherwise. */
-static int ended(int status)
+/* This status, or 2 where what was printed could not be written. */
+static int exit_status(int status)
 {
     if (fflush(stdout) == 0 && !ferror(stdout))
         return status;

@@ -86,7 +86,7 @@ int main(int argc, char **argv)
                                                          LEND(halls[1]), LEND(halls[2]), LEND(halls[3]));
     if (planned.number != KIWIMOUND_ACCEPTED) {
         printf("refused: number %u, line %u\n", (unsigned)planned.number, (unsigned)planned.line);
-        return ended(1);
+        return exit_status(1);
     }
     int status = 0;
     for (size_t h = 0; h < count; h++) {
@@ -99,5 +99,5 @@ int main(int argc, char **argv)
         }
     }
     print_busy(count, (uint32_t)limit);
-    return ended(status);
+    return exit_status(status);
 }

@@ -1,6 +1,6 @@
-/* Plans the feed sheet in a file, or on standard input, and prints what a crew asks first: when each blower is idle, whether it is switched off
- * meanwhile, and what the day costs. For a held sheet: the slots that show why, with the feedings forced into them and those that the blowers can make
- * there.
+/* Plans the feed sheet in a file, or on standard input, and prints what a crew asks first: when each blower is idle,
+ * whether it is switched off meanwhile, and what the day costs. For a held sheet: the slots that show why, with the
+ * feedings forced into them and those that the blowers can make there.
  *
  *     idle SHEET        idle < SHEET
  *
@@ -40,8 +40,8 @@ int main(int argc, char **argv)
     if (planned.number == KIWIMOUND_ACCEPTED) {
         print_idle();
         print_bill(listing);
-        return ended(0);
+        return exit_status(0);
     }
     print_unplanned(planned, listing);
-    return ended(1);
+    return exit_status(1);
 }

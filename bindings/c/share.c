@@ -45,9 +45,9 @@ int main(int argc, char **argv)
         kiwimound_plan_share(sheet, length, listing, sizeof listing, placing, KIWIMOUND_PLACING_WORDS);
     if (planned.number != KIWIMOUND_ACCEPTED) {
         printf("refused: number %u, line %u\n", (unsigned)planned.number, (unsigned)planned.line);
-        return ended(1);
+        return exit_status(1);
     }
     printf("share %u\n", (unsigned)planned.share);
     print_kept(length);
-    return ended(0);
+    return exit_status(0);
 }

@@ -181,9 +181,9 @@ impl Sheet {
     /// Plans the day with its rations equally cut, so that a sheet that is held has a plan too: gives the share of the
     /// volumes that is fed, in a hundred, and the plan.
     ///
-    /// Each volume becomes volume × share / 100, rounded down. The share is the greatest for which the day can be
-    /// planned, from 1 to 100: share 1 cuts every ration to 0, and 100 means that nothing is cut and the plan is that
-    /// of [`Sheet::plan`]. A ration that is cut to 0 keeps its place among the rations and is not fed.
+    /// At a share of s, of each ration the whole part of volume × s / 100 is left. The share is the greatest for which
+    /// the day can be planned, from 1 to 100: share 1 leaves nothing of any ration, and 100 means that nothing is cut
+    /// and the plan is that of [`Sheet::plan`]. A ration of which nothing is left keeps its place among the rations.
     ///
     /// ```
     /// use kiwimound::Sheet;

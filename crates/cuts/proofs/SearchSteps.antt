@@ -24,15 +24,15 @@ use Rattle.placing.specs.Rations.{demandsFrom, Rations}
 use Rattle.placing.specs.Words.{WindowWords, VolumeBytes}
 use Rattle.placing.specs.WordLaws.{windows-of-day, volumes-of-day, windows-same}
 use Rattle.placing.specs.HeldSteps.{full-words, length-full}
-use Rattle.placing.specs.Represents.{SomeDemands, HighWords, CanBegin, Begun, CanBeginAgain, BegunAgain}
+use Rattle.placing.specs.Represents.{SomeDemands, HighWords, CanBeginAgain, BegunAgain}
 use Rattle.placing.specs.BeginLaws.{holds-none}
-use Rattle.placing.specs.FeasibilitySteps.{demand-words, ration-words, can-begin}
+use Rattle.placing.specs.FeasibilitySteps.{demand-words, ration-words, can-start}
 use Rattle.placing.specs.ReadLaws.{SheetRead, sheet-read}
-use Rattle.cuts.specs.Cuts.{maxShare, cutSheet, hasPlacing}
+use Rattle.cuts.specs.Cuts.{maxShare, cutSheet, feasibleSheet}
 use Rattle.questions.specs.declared.ShortfallAnswer.{ShortfallAnswer}
 use Rattle.questions.specs.ShortfallParts.{ReadShortfall}
-use Rattle.questions.specs.CallLaws.{lacking-infeasible}
-use Rattle.cuts.specs.Contracts.{CutFrom, CanAskShares, ShareAnswered, ReadPossible, ReadNone, Between, ReadBetween, Reaches, ShareFound}
+use Rattle.questions.specs.CallLaws.{deficient-infeasible}
+use Rattle.cuts.specs.Contracts.{CutFrom, CanAskShares, ShareAnswered, ReadPossible, ReadNone, Between, ReadBetween, CanHalve, ShareFound}
 use Rattle.cuts.specs.ShareLaws.{none-from, between-up, between-down, between-end}
 use Rattle.cuts.specs.CutDemandLaws.{windows-cut, length-cut}
 use Rattle.cuts.specs.ReadLaws.{cut-read}
@@ -79,10 +79,10 @@ module _ {r : Reading} {H N F R : List ℕ} (may : CanAskShares r H N F R) (shar
           full-words (x .slots) (x .blowers) (b .rations .short)
           (may .highs ∙ ap₂ (λ d m. padded maxSlots (replicate d m)) (sym same-slots) (sym same-blowers))
 
-      answer : {can : Bool} {F′ R′ C S : List ℕ} → Begun can (may .words) N′ H F′ R′ C S → can ≡ hasPlacing (cutSheet share s)
-      unfolding hasPlacing noLow fullHigh
+      answer : {can : Bool} {F′ R′ S : List ℕ} → BegunAgain can N N′ H F R F′ R′ S → can ≡ feasibleSheet (cutSheet share s)
+      unfolding feasibleSheet noLow fullHigh
       answer q =
-          q .answer (x .slots) (demandsFrom (x .slots) (x .rations) (x .numbers)) (replicate (x .slots) (x .blowers))
+          q .answer (may .words) (may .holds) (x .slots) (demandsFrom (x .slots) (x .rations) (x .numbers)) (replicate (x .slots) (x .blowers))
           (demand-words (b .rations) windows (volumes-of-day (b .rations) v)) high-bytes
           ∙ ap (λ ds. feasible (x .slots) ds (replicate (x .slots) 0) (replicate (x .slots) (x .blowers))) (b .demands)
           ∙ ap₂ (λ d m. feasible d (demandsOf (cutSheet share s)) (replicate d 0) (replicate d m)) (b .slots) (b .blowers)
@@ -94,16 +94,14 @@ module _ {r : Reading} {H N F R : List ℕ} (may : CanAskShares r H N F R) (shar
   cut-rations = b h .rations
 
   module _ {N′ : List ℕ} (v : VolumeBytes (demandsFrom maxSlots (x .rations) (x .numbers)) N′) where
-    pub can-begin-share : {C : List ℕ} → length C ≡ maxSlots → CanBeginAgain N N′ H F R C
-    can-begin-share {C} c =
-        let begin : CanBegin (may .words) N′ H C = can-begin (demands h v) (length-full (r .slots) (r .blowers) (a h .rations .short) (may .highs)) c in
-        record { windows = may .words; holds = may .holds; start = begin .start; spares = c }
+    pub can-begin-share : CanBeginAgain N N′ H F R
+    can-begin-share =
+        let long = length-full (r .slots) (r .blowers) (a h .rations .short) (may .highs) in
+        record { windows = may .words; holds = may .holds; start = can-start (demands h v) long }
 
-    module _ {can : Bool} {F′ R′ C S : List ℕ} (q : BegunAgain can N N′ H F R F′ R′ C S) where
+    module _ {can : Bool} {F′ R′ S : List ℕ} (q : BegunAgain can N N′ H F R F′ R′ S) where
       pub answered : ShareAnswered share r can S
-      answered =
-          let begun = q .begun (may .words) (may .holds) in
-          record { answer = λ own s k. answer k v begun; marks-long = begun .marks-long }
+      answered = record { answer = λ own s k. answer k v q; marks-long = q .marks-long }
 
       -- the words hold a placing of this share's volumes now
       pub ask-again : CanAskShares r H N′ F′ R′
@@ -128,11 +126,11 @@ ask-first {W = W} sheet h w = record { sheet = sheet; highs = h; words = W; wind
 -- share
 pub deficient-none : {r : Reading} → ReadSheet r → (share : ℕ) → share ≤ maxShare → {x : Reading} → CutFrom share r x → (marks : List ℕ) {a : ShortfallAnswer}
     → ReadShortfall x marks a → ltZ (pos 0) (a .shortfall) ≡ true → ReadNone r share
-unfolding hasPlacing
+unfolding feasibleSheet
 deficient-none {r} sheet share l {x} cut marks q above own s h =
     let k = cut-read h (sheet .zero) share l (cut own s h) in
     none-from s share
-    (lacking-infeasible (k .checks) marks (ap (λ a. ltZ (pos 0) (a .shortfall)) (sym (q [] (cutSheet share s) k)) ∙ above))
+    (deficient-infeasible (k .checks) marks (ap (λ a. ltZ (pos 0) (a .shortfall)) (sym (q [] (cutSheet share s) k)) ∙ above))
 
 -- ---- the two ends
 
@@ -177,7 +175,7 @@ module _ {r : Reading} (sheet : ReadSheet r) where
 
 -- while more than one share is left, so is a question, and one less can halve what it leaves
 pub question-left : (left low : ℕ) {high : ℕ} → left ≤ 7 → low + 1 < high → high ≤ low + 2 ^ left
-    → (1 ≤ left) × Reaches ((1 * 2 ^ (left - 1)) % 2 ^ 32) low high × ((1 * 2 ^ (left - 1)) % 2 ^ 32 ≡ 2 ^ (left - 1))
+    → (1 ≤ left) × CanHalve ((1 * 2 ^ (left - 1)) % 2 ^ 32) low high × ((1 * 2 ^ (left - 1)) % 2 ^ 32 ≡ 2 ^ (left - 1))
 question-left left low {high = high} l k m =
     let o = some left m in
     let e = one-shl {width = 32} (left - 1) (omega arith) in

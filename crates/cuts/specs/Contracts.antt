@@ -15,7 +15,7 @@ use Rattle.sheet.specs.OwnChecks.{ReadFrom, ReadSheet}
 use Rattle.placing.specs.Rations.{demandsFrom}
 use Rattle.placing.specs.Words.{WindowWords}
 use Rattle.placing.specs.Represents.{Holds}
-use Rattle.cuts.specs.Cuts.{maxShare, cutSheet, hasPlacing, greatestShare}
+use Rattle.cuts.specs.Cuts.{maxShare, cutSheet, feasibleSheet, greatestShare}
 
 -- x is what would be read of the cut sheet
 abbrev pub CutFrom : (share : ℕ) (r x : Reading) → Type 0
@@ -34,18 +34,18 @@ pub record CanAskShares (r : Reading) (H N F R : List ℕ) : Type 0 where
 
 -- whether the cut sheet has a sound placing; where it has none there is a mark for each slot of the longest day
 pub record ShareAnswered (share : ℕ) (r : Reading) (can : Bool) (marks : List ℕ) : Type 0 where
-  pub answer : (own : List Refusal) (s : Sheet) → ReadFrom own s r → can ≡ hasPlacing (cutSheet share s)
+  pub answer : (own : List Refusal) (s : Sheet) → ReadFrom own s r → can ≡ feasibleSheet (cutSheet share s)
   pub marks-long : can ≡ false → length marks ≡ maxSlots
 
 -- The greatest share ----------------------------------------------------------------
 
 -- this share has a sound placing
 abbrev pub ReadPossible : Reading → (share : ℕ) → Type 0
-ReadPossible r share = (own : List Refusal) (s : Sheet) → ReadFrom own s r → hasPlacing (cutSheet share s) ≡ true
+ReadPossible r share = (own : List Refusal) (s : Sheet) → ReadFrom own s r → feasibleSheet (cutSheet share s) ≡ true
 
 -- no share from this one on has a sound placing
 abbrev pub NoneFrom : Sheet → ℕ → Type 0
-NoneFrom s from = (share : ℕ) → from ≤ share → share ≤ maxShare → hasPlacing (cutSheet share s) ≡ false
+NoneFrom s from = (share : ℕ) → from ≤ share → share ≤ maxShare → feasibleSheet (cutSheet share s) ≡ false
 
 abbrev pub ReadNone : Reading → ℕ → Type 0
 ReadNone r from = (own : List Refusal) (s : Sheet) → ReadFrom own s r → NoneFrom s from
@@ -54,15 +54,15 @@ ReadNone r from = (own : List Refusal) (s : Sheet) → ReadFrom own s r → None
 pub record Between (s : Sheet) (low high : ℕ) : Type 0 where
   pub order : low < high
   pub most : high ≤ suc maxShare
-  pub possible : hasPlacing (cutSheet low s) ≡ true
+  pub possible : feasibleSheet (cutSheet low s) ≡ true
   pub none : NoneFrom s high
 
 abbrev pub ReadBetween : Reading → (low high : ℕ) → Type 0
 ReadBetween r low high = (own : List Refusal) (s : Sheet) → ReadFrom own s r → Between s low high
 
 -- what is between two ends is at most twice what is to be left between them
-abbrev pub Reaches : (reach low high : ℕ) → Type 0
-Reaches reach low high = (1 ≤ reach) × (reach ≤ maxShare) × (high ≤ low + 2 * reach)
+abbrev pub CanHalve : (reach low high : ℕ) → Type 0
+CanHalve reach low high = (1 ≤ reach) × (reach ≤ maxShare) × (high ≤ low + 2 * reach)
 
 abbrev pub ShareFound : Reading → (share : ℕ) → Type 0
 ShareFound r share = (own : List Refusal) (s : Sheet) → ReadFrom own s r → share ≡ greatestShare s

@@ -21,15 +21,15 @@ unfoldable pub cutJob : (share : ℕ) → Job → Job
 cutJob share j =
     record { tank = j .tank; release = j .release; deadline = j .deadline; volume = cutVolume share (j .volume) }
 
--- the cut sheet: each ration is cut, and one cut to 0 stays on the sheet, unfed
+-- the cut sheet: each ration is cut in its place, also one of which 0 is left
 unfoldable pub cutSheet : (share : ℕ) → Sheet → Sheet
 cutSheet share s =
     record { slots = s .slots; blowers = s .blowers; wake = s .wake; jobs = map (cutJob share) (s .jobs) }
 
 -- the rations of a sheet have a sound placing: without further word, low is 0 and high is m
-unfoldable pub hasPlacing : Sheet → Bool
-hasPlacing s = feasible (s .slots) (demandsOf s) (noLow s) (fullHigh s)
+unfoldable pub feasibleSheet : Sheet → Bool
+feasibleSheet s = feasible (s .slots) (demandsOf s) (noLow s) (fullHigh s)
 
 -- the greatest share from 0 to 100 for which the cut sheet has one
 unfoldable pub greatestShare : Sheet → ℕ
-greatestShare s = longest (λ share. hasPlacing (cutSheet share s)) maxShare
+greatestShare s = longest (λ share. feasibleSheet (cutSheet share s)) maxShare

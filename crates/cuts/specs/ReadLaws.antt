@@ -1,4 +1,4 @@
--- The reading of a cut sheet is one that no check refuses, a volume of 0 being no fault in it. Assumes nothing.
+-- The reading of a cut sheet is handed on as that of a sheet which no check refused; its volumes may be 0. Assumes nothing.
 use mathlib.Core.Path.{_≡_, refl, sym, _∙_}
 use mathlib.Core.List.{List, []}
 use Prim.Native.Nat.{ℕ, _≤_}

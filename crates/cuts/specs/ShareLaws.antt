@@ -17,7 +17,7 @@ use Rattle.schedules.specs.DemandLaws.{windows-demandsOf}
 use Rattle.method.specs.Cases.{le-or-lt}
 use Rattle.method.specs.Method.{longest}
 use Rattle.method.specs.LongestLaws.{longest-le, longest-passes, le-longest}
-use Rattle.cuts.specs.Cuts.{maxShare, cutVolume, cutJob, cutSheet, hasPlacing, greatestShare}
+use Rattle.cuts.specs.Cuts.{maxShare, cutVolume, cutJob, cutSheet, feasibleSheet, greatestShare}
 use Rattle.cuts.specs.Contracts.{NoneFrom, Between}
 use Rattle.cuts.specs.FewerLaws.{Fewer, fewer-feasible, Nothing, nothing-feasible}
 
@@ -98,15 +98,15 @@ cut-fewer slots a b l [] = tt
 cut-fewer slots a b l (j ∷ js) = (refl, cut-mono (j .volume) a b l, cut-fewer slots a b l js)
 
 -- where a share has one, every smaller share has one
-pub smaller-share : (s : Sheet) (a b : ℕ) → a ≤ b → hasPlacing (cutSheet b s) ≡ true → hasPlacing (cutSheet a s) ≡ true
-unfolding hasPlacing demandsOf noLow fullHigh cutSheet
+pub smaller-share : (s : Sheet) (a b : ℕ) → a ≤ b → feasibleSheet (cutSheet b s) ≡ true → feasibleSheet (cutSheet a s) ≡ true
+unfolding feasibleSheet demandsOf noLow fullHigh cutSheet
 smaller-share s a b l =
     fewer-feasible (windows-demandsOf (cutSheet a s)) (windows-demandsOf (cutSheet b s)) (cut-fewer (s .slots) a b l (s .jobs)) (fullHigh s)
     (length-replicate (s .slots) (s .blowers))
 
 -- a share that leaves nothing of any volume has one
-nothing-left : (s : Sheet) (share : ℕ) → Nothing (demandsOf (cutSheet share s)) → hasPlacing (cutSheet share s) ≡ true
-unfolding hasPlacing noLow fullHigh cutSheet
+nothing-left : (s : Sheet) (share : ℕ) → Nothing (demandsOf (cutSheet share s)) → feasibleSheet (cutSheet share s) ≡ true
+unfolding feasibleSheet noLow fullHigh cutSheet
 nothing-left s share n =
     nothing-feasible (windows-demandsOf (cutSheet share s)) n (fullHigh s) (length-replicate (s .slots) (s .blowers))
 
@@ -116,7 +116,7 @@ unfolding demandOf cutJob
 nothing-of-zero slots [] = tt
 nothing-of-zero slots (j ∷ js) = (cut-none 0 (j .volume) (omega arith), nothing-of-zero slots js)
 
-pub share-zero : (s : Sheet) → hasPlacing (cutSheet 0 s) ≡ true
+pub share-zero : (s : Sheet) → feasibleSheet (cutSheet 0 s) ≡ true
 unfolding demandsOf cutSheet
 share-zero s = nothing-left s 0 (nothing-of-zero (s .slots) (s .jobs))
 
@@ -131,7 +131,7 @@ nothing-of-one least slots before until (j ∷ js) l h =
       nothing-of-one least slots (j .tank) (j .deadline) js l (h .1),
     )
 
-pub share-one : {least : ℕ} (s : Sheet) → ValuesInRange least s (length (s .jobs)) true → hasPlacing (cutSheet 1 s) ≡ true
+pub share-one : {least : ℕ} (s : Sheet) → ValuesInRange least s (length (s .jobs)) true → feasibleSheet (cutSheet 1 s) ≡ true
 unfolding demandsOf cutSheet
 share-one {least} s v = nothing-left s 1 (nothing-of-one least (s .slots) 0 0 (s .jobs) (v .head .slots .le) (v .jobs))
 
@@ -139,12 +139,12 @@ share-one {least} s v = nothing-left s 1 (nothing-of-one least (s .slots) 0 0 (s
 
 module _ (s : Sheet) where
   -- where a share has none, no greater one has
-  pub none-from : (share : ℕ) → hasPlacing (cutSheet share s) ≡ false → NoneFrom s share
+  pub none-from : (share : ℕ) → feasibleSheet (cutSheet share s) ≡ false → NoneFrom s share
   none-from share e above l k =
-      false-of-not-true (hasPlacing (cutSheet above s)) (λ p. false≢true (sym e ∙ smaller-share s share above l p))
+      false-of-not-true (feasibleSheet (cutSheet above s)) (λ p. false≢true (sym e ∙ smaller-share s share above l p))
 
   module _ {low high : ℕ} (b : Between s low high) (share : ℕ) where
-    pub between-up : share < high → hasPlacing (cutSheet share s) ≡ true → Between s share high
+    pub between-up : share < high → feasibleSheet (cutSheet share s) ≡ true → Between s share high
     between-up l e = record { order = l; most = b .most; possible = e; none = b .none }
 
     pub between-down : low < share → share ≤ high → NoneFrom s share → Between s low share
@@ -156,7 +156,7 @@ module _ (s : Sheet) where
   between-end {low} {high} b l = sym (go (le-or-lt (longest test maxShare) low))
     where
       test : ℕ → Bool
-      test share = hasPlacing (cutSheet share s)
+      test share = feasibleSheet (cutSheet share s)
 
       go : (longest test maxShare ≤ low) ⊎ (low < longest test maxShare) → longest test maxShare ≡ low
       go (inl k) = omega (arith, le-longest test maxShare low (omega (arith, b .order, b .most)) (b .possible))

@@ -30,7 +30,7 @@ use Rattle.placing.specs.ReadLaws.{SheetRead, sheet-read}
 use Rattle.densities.specs.Densities.{scale, densityOf, densityAt, DensityMost}
 use Rattle.densities.specs.DensityLaws.{density-covers}
 use Rattle.densities.specs.SpreadLaws.{forced-within}
-use Rattle.cuts.specs.Cuts.{maxShare, cutVolume, cutSheet, hasPlacing}
+use Rattle.cuts.specs.Cuts.{maxShare, cutVolume, cutSheet, feasibleSheet}
 use Rattle.cuts.specs.ShareLaws.{cut-in-range}
 use Rattle.cuts.specs.CutDemandLaws.{windows-cut, length-cut, volumes-cut}
 
@@ -117,8 +117,8 @@ module _ {own : List Refusal} {s : Sheet} {r : Reading} (h : ReadFrom own s r) (
         getD-replicate (s .slots) t (s .blowers) 0 m,
       )
 
-  pub spread-placing : hasPlacing (cutSheet share s) ≡ true
-  unfolding hasPlacing noLow fullHigh cutSheet
+  pub spread-placing : feasibleSheet (cutSheet share s) ≡ true
+  unfolding feasibleSheet noLow fullHigh cutSheet
   spread-placing =
       within-capacity (range .windows) (fullHigh s) (length-replicate (s .slots) (s .blowers))
       (λ q e.

@@ -14,7 +14,7 @@ use Rattle.schedules.specs.DemandLaws.{windows-demandsOf}
 use Rattle.schedules.specs.FeasibleLaws.{feasible-sound, sound-feasible}
 use Rattle.schedules.specs.Tabulate.{getD-map-below}
 use Rattle.method.specs.LongestLaws.{longest-le, longest-passes, le-longest}
-use Rattle.cuts.specs.Cuts.{maxShare, cutVolume, cutJob, cutSheet, hasPlacing, greatestShare}
+use Rattle.cuts.specs.Cuts.{maxShare, cutVolume, cutJob, cutSheet, feasibleSheet, greatestShare}
 use Rattle.cuts.specs.ShareLaws.{cut-whole-sheet, smaller-share, share-zero, share-one}
 
 -- The cut sheet ---------------------------------------------------------------------
@@ -38,8 +38,8 @@ SoundAt s share q = let c = cutSheet share s in Sound (c .slots) (demandsOf c) (
 
 module _ (s : Sheet) where
   -- the test is right
-  has-placing-iff : (share : ℕ) → (hasPlacing (cutSheet share s) ≡ true) ↔ ((q : Schedule) × SoundAt s share q)
-  unfolding hasPlacing noLow fullHigh
+  has-placing-iff : (share : ℕ) → (feasibleSheet (cutSheet share s) ≡ true) ↔ ((q : Schedule) × SoundAt s share q)
+  unfolding feasibleSheet noLow fullHigh
   has-placing-iff share =
       let c = cutSheet share s in
       let low = length-replicate {A = ℕ} (c .slots) 0 in
@@ -47,13 +47,13 @@ module _ (s : Sheet) where
       (feasible-sound (windows-demandsOf c) low high, λ p. sound-feasible (windows-demandsOf c) low high (p .1))
 
   abbrev test : ℕ → Bool
-  test share = hasPlacing (cutSheet share s)
+  test share = feasibleSheet (cutSheet share s)
 
   pub share-most : greatestShare s ≤ maxShare
   unfolding greatestShare
   share-most = longest-le test maxShare
 
-  pub greatest-possible : hasPlacing (cutSheet (greatestShare s) s) ≡ true
+  pub greatest-possible : feasibleSheet (cutSheet (greatestShare s) s) ≡ true
   unfolding greatestShare
   greatest-possible = longest-passes test (share-zero s) maxShare
 
@@ -67,11 +67,11 @@ module _ (s : Sheet) where
   no-greater share l k q p = omega (arith, le-longest test maxShare share k (has-placing-iff share .1 (q, p)))
 
   -- it is 100 exactly where the sheet has a sound placing as it is
-  pub whole-iff : (greatestShare s ≡ maxShare) ↔ (hasPlacing s ≡ true)
+  pub whole-iff : (greatestShare s ≡ maxShare) ↔ (feasibleSheet s ≡ true)
   unfolding greatestShare
   whole-iff = (
-    λ e. ap hasPlacing (sym (cut-whole-sheet s)) ∙ ap test (sym e) ∙ greatest-possible,
-    λ e. omega (arith, share-most, le-longest test maxShare maxShare (omega arith) (ap hasPlacing (cut-whole-sheet s) ∙ e)),
+    λ e. ap feasibleSheet (sym (cut-whole-sheet s)) ∙ ap test (sym e) ∙ greatest-possible,
+    λ e. omega (arith, share-most, le-longest test maxShare maxShare (omega arith) (ap feasibleSheet (cut-whole-sheet s) ∙ e)),
   )
 
   -- it is at least 1: no volume of a sheet is above 96, and a hundredth of that is 0, rounded down

@@ -1,9 +1,9 @@
 // The greatest share that has a sound placing. It is looked for between two shares, one that has a placing and one from
 // which on none has. Before anything is asked, rations spread evenly give the first, and the sum of the volumes the
-// second. What is asked about is the greatest share that is left between them, as long as seven questions are enough if
-// the answer is no. Then the search leaves marks on the slots that show why, and what smaller shares force into these
-// slots tells how many of those have none either, without another question. A question goes on from the placing that
-// the one before it left, so that only what is more or less of each ration is placed anew.
+// second. What is asked about is the greatest share that is left between them, as long as the questions left, seven at
+// first, are enough if the answer is no. Then the search leaves marks on the slots that show why, and what smaller
+// shares force into these slots tells how many of those have none either, without another question. A question goes on
+// from the placing that the one before it left, so that only what is more or less of each ration is placed anew.
 use crate::cutting;
 use densities::SCALE;
 use placing::begin;
@@ -17,7 +17,7 @@ ghost use lib.IntN.{pos};
 ghost use lib.Signed.{ltZ};
 ghost use Rattle.sheet.specs.OwnChecks.{ReadSheet};
 ghost use Rattle.cuts.specs.Cuts.{maxShare};
-ghost use Rattle.cuts.specs.Contracts.{CanAskShares, ShareAnswered, ReadPossible, ReadNone, ReadBetween, Reaches, ShareFound};
+ghost use Rattle.cuts.specs.Contracts.{CanAskShares, ShareAnswered, ReadPossible, ReadNone, ReadBetween, CanHalve, ShareFound};
 
 const MAX_SHARE: u32 = 100;
 
@@ -32,7 +32,7 @@ struct Ends {
 
 // Whether the sheet cut to a share has a sound placing; where it has none, the marks are left on slots that show why.
 // `highs` has the sheet's blowers in each slot. `fed` and `rest` hold some placing of its rations with the volumes
-// `placed`, of whatever share, and then one with those of this share.
+// `placed`, before and after; which these are is for the cost, and not promised.
 fn can_share(
     share: u32,
     sheet: Reading,
@@ -49,8 +49,7 @@ fn can_share(
     let cut = cutting::cut_sheet(share, sheet);
     let numbers = cut.numbers;
     let volumes = windows::volumes_of(cut.rations as usize, &numbers);
-    let mut spare = [0u8; 96];
-    let can = begin::begin_again(placed, &volumes, highs, fed, rest, &mut spare, marks);
+    let can = begin::begin_again(placed, &volumes, highs, fed, rest, marks);
     *placed = volumes;
     can
 }
@@ -63,7 +62,7 @@ fn is_above_zero(shortfall: i32) -> bool
 }
 
 // Whether the marked slots show that the sheet cut to a share has no sound placing: more is forced into them than the
-// blowers can make.
+// blowers can make. What is promised is that a yes is right.
 fn is_deficient(share: u32, sheet: Reading, marks: &[u8]) -> bool
     requires { ⌜ ReadSheet sheet × (share ≤ maxShare) ⌝ }
     ensures { λ r. ⌜ (r ≡ true → ReadNone sheet share) ⌝ }
@@ -86,7 +85,7 @@ fn halve(low: u32, high: u32, sheet: Reading, marks: &[u8]) -> Ends
 }
 
 // The least share above `low` of which the marked slots show that it has no placing; `high` where they show it of none
-// below that.
+// below that. What is promised is that it has none; that it is the least, nothing above rests on.
 fn least_deficient(low: u32, high: u32, sheet: Reading, marks: &[u8]) -> u32
     requires { ⌜ ReadSheet sheet × ReadNone sheet high × (low < high) × (high ≤ maxShare + 1) ⌝ }
     ensures { λ r. ⌜ ReadNone sheet r × (low < r) × (r ≤ high) ⌝ }
@@ -120,7 +119,7 @@ fn spread_share(sheet: Reading) -> u32
 // at most `reach` left on both sides, so near the greatest that this can come next if the answer is yes, where it may
 // be so near.
 fn asked(low: u32, high: u32, reach: u32) -> u32
-    requires { ⌜ (low + 1 < high) × (high ≤ maxShare + 1) × Reaches reach low high ⌝ }
+    requires { ⌜ (low + 1 < high) × (high ≤ maxShare + 1) × CanHalve reach low high ⌝ }
     ensures { λ r. ⌜ (low < r) × (r < high) × (r ≤ low + reach) × (high ≤ r + reach) ⌝ }
 {
     let most = low + reach;
@@ -143,7 +142,7 @@ fn narrow(
     fed: &mut [u64; 96],
     rest: &mut [u64; 96],
 ) -> Ends
-    requires { ⌜ CanAskShares sheet (now highs) (now placed) (now fed) (now rest) × ReadBetween sheet low high × (low + 1 < high) × Reaches reach low high ⌝ }
+    requires { ⌜ CanAskShares sheet (now highs) (now placed) (now fed) (now rest) × ReadBetween sheet low high × (low + 1 < high) × CanHalve reach low high ⌝ }
     ensures { λ r. ⌜ ReadBetween sheet (r .low) (r .high) × (r .high - r .low ≤ reach) ⌝ }
     ensures { λ _. ⌜ CanAskShares sheet (now (highs .entry)) (now (placed .exit)) (now (fed .exit)) (now (rest .exit)) ⌝ }
 {

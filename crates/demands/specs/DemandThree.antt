@@ -42,7 +42,7 @@ use Rattle.demands.specs.Answers.{programText, whyText, practiceText}
 use Rattle.demands.specs.Outcome.{AloneIs, NoneSound, PlannedOrHeld, Outcome, placingIn, SamePlacing}
 use Rattle.demands.specs.Causes.{CausesShown}
 use Rattle.demands.specs.Halls.{hallIn, answerIn, problemIn, HallIs, busyIn}
-use Rattle.demands.specs.Shares.{CutIs, problemAt, writtenShare, GreatestShare}
+use Rattle.demands.specs.Shares.{CutIs, problemAt, writtenShare, IsGreatestShare}
 use Rattle.demands.specs.AnswerLaws.{bytes-in-range, records-in-range, alone-is}
 use Rattle.demands.specs.OutcomeLaws.{written-listing, outcome-of, marks-of, high-alone}
 use Rattle.demands.specs.PracticeLaws.{of-practice, practice-written, practice-taken}
@@ -110,7 +110,7 @@ pub record DemandThree : Type 0 where
       let r = shareRefusal b (shortPlan listing || shortPlacing placing) in let p = shareProblem (sheetOf b) in let a = shareAnswer r (sheetOf b) in
       Outcome (problemAt b a) (a .number) (writtenShare a (listingAfter r (listingOf p) listing))
       × SamePlacing (cutSheet (a .share) (sheetOf b)) (writtenShare a (listingAfter r (listingOf p) listing)) (placingAfter r (wordsFor p) placing)
-      × GreatestShare (sheetOf b) (a .share)
+      × IsGreatestShare (sheetOf b) (a .share)
   pub cut-is : (share : ℕ) (s : Sheet) → CutIs share s
   -- Rations lent as records -----------------------------------------------------------------------
 

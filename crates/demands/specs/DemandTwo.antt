@@ -97,8 +97,9 @@ pub record DemandTwo : Type 0 where
       faults (h .bytes) ≡ [] → HasPlacing p → planBytes ≤ length (h .buffers .listing) → placingWords ≤ length (h .buffers .placing) →
       (x .number ≡ 0) × ByMethod p (linesOf (written x (o .listing))) × ChosenByMethod p (placingIn (sheetOf (h .bytes)) (o .placing))
   pub hall-is : (limit : ℕ) (used : List ℕ) (h : Hall) → HallIs limit used h
-  -- a sheet cut to the share answered, which always has a placing: by the method. `plan-share` of demand 3 says that
-  -- the share is the greatest
+  -- Short rations: the sheet cut to the share answered, which always has a placing ------------------
+
+  -- by the method; `plan-share` of demand 3 says that the share is the greatest
   pub plan-share : (b listing placing : List ℕ) → faults b ≡ [] → planBytes ≤ length listing → placingWords ≤ length placing →
       let r = shareRefusal b (shortPlan listing || shortPlacing placing) in let p = shareProblem (sheetOf b) in let a = shareAnswer r (sheetOf b) in
       (a .number ≡ 0) × ByMethod (problemAt b a) (linesOf (writtenShare a (listingAfter r (listingOf p) listing)))

@@ -27,7 +27,7 @@ use Rattle.checks.specs.Sheet.{writeJob, writeSheet}
 use Rattle.practice.specs.Practice.{nextSeed, seedAfter, draw, drawnJob, practiceJob, practiceSheet, faultySeed, seedIn}
 use Rattle.hall_uses.specs.Uses.{hallHigh}
 use Rattle.halls.specs.Halls.{hallProblem, shortHall, hallRefusal, usedBy, usedAfter, hallOutcome, hallsInOrder, usedByAll, hallsFaults, hallsRefusal, outcomes, outcomeOf, hallsAnswer}
-use Rattle.cuts.specs.Cuts.{cutVolume, cutJob, cutSheet, hasPlacing, greatestShare}
+use Rattle.cuts.specs.Cuts.{cutVolume, cutJob, cutSheet, feasibleSheet, greatestShare}
 use Rattle.shares.specs.Shares.{shareProblem, shareRefusal, shareAnswer}
 use Rattle.program.specs.Program.{output, explanation, seedOutput}
 use Rattle.demands.specs.Halls.{busyIn}
@@ -69,5 +69,5 @@ halls = tt
 
 -- from a sheet to its greatest share and the plan of the cut sheet
 unfoldable pub shares : Unit {0}
-unfolding placings over shortPlan shortPlacing listingAfter placingAfter cutVolume cutJob cutSheet hasPlacing greatestShare shareProblem shareRefusal shareAnswer
+unfolding placings over shortPlan shortPlacing listingAfter placingAfter cutVolume cutJob cutSheet feasibleSheet greatestShare shareProblem shareRefusal shareAnswer
 shares = tt

@@ -40,7 +40,7 @@ writtenShare a listing = take (a .length) listing
 
 -- The share answered for a sheet: it and every smaller one have a placing that may be taken, and no greater one up to
 -- 100 has. It is never 0: a hundredth of a volume, which is at most 96, is 0, rounded down, so that share 1 has one.
-pub record GreatestShare (s : Sheet) (share : ℕ) : Type 0 where
+pub record IsGreatestShare (s : Sheet) (share : ℕ) : Type 0 where
   pub least : 1 ≤ share
   pub most : share ≤ 100
   pub smaller : (n : ℕ) → n ≤ share → HasPlacing (alone (cutSheet n s))

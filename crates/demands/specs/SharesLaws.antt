@@ -31,7 +31,7 @@ use Rattle.shares.specs.Theorems.{share-in-range, share-planned, smaller-planne
 use Rattle.demands.specs.Answers.{FirstOf, NotZero, PlanBuffer, PlacingBuffer}
 use Rattle.demands.specs.Outcome.{Outcome, placingIn, SamePlacing}
 use Rattle.demands.specs.ByMethod.{ChosenByMethod, ByMethod}
-use Rattle.demands.specs.Shares.{CutIs, problemAt, writtenShare, GreatestShare}
+use Rattle.demands.specs.Shares.{CutIs, problemAt, writtenShare, IsGreatestShare}
 use Rattle.demands.specs.AnswerLaws.{first-of, numbered-one, both-planned}
 use Rattle.demands.specs.OutcomeLaws.{outcome-planned, placing-listed, marked-feedings}
 use Rattle.demands.specs.ByMethodLaws.{feedings-chosen, by-method}
@@ -226,7 +226,7 @@ module _ (b listing placing : List ℕ) where
     unfolding shareAnswer
     share-is = rw (eq-eqb (r .number) 0 number-zero)
 
-    pub share-greatest : GreatestShare s (a .share)
+    pub share-greatest : IsGreatestShare s (a .share)
     share-greatest =
         record {
           least = omega (arith, share-is, share-least s (bytes-checked b .values formed));

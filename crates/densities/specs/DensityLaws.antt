@@ -6,7 +6,7 @@ use Prim.Native.Nat.{ℕ, suc, _+_, _-_, _*_, _≤_, _<_, max}
 use native.Mathlib.Nat.{lt-div-mul-add, div-lt-iff-lt-mul}
 use native.Mathlib.Decide.{ℕ-discrete}
 use native.Mathlib.Omega.{arith}
-use lib.ListN.{length, getD, replicate, length-replicate}
+use lib.ListN.{getD, replicate, length-replicate}
 use Rattle.common.specs.FillLaws.{getD-zeros}
 use Rattle.checks.specs.Limits.{maxSlots, maxRations}
 use Rattle.theory.specs.Sums.{sum-none, sum-next, sum-le-mul}

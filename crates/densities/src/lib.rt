@@ -1,6 +1,7 @@
 // Rations spread evenly over their windows: the density of a ration is its volume divided by the length of its window.
-// Where the densities of the rations in whose windows a slot is add up to no more than the blowers, in every slot, a
-// sound placing exists (specs/SpreadLaws.antt). That takes no search, and says yes only where it is sure.
+// Where the densities of the rations in whose windows a slot is add up to no more than the blowers, in every slot, no
+// more is forced into any set of slots than its blowers can make (specs/SpreadLaws.antt), and so a sound placing
+// exists. To see that takes no search; where they add up to more, nothing follows.
 use checks::limits::MAX_SLOTS;
 use line::layout::FIELDS;
 ghost use mathlib.Core.Path.{_≡_};

@@ -1,7 +1,7 @@
 -- The exchanged grid: what is fed rests, and what rests is fed. Assumes nothing.
 use mathlib.Core.Path.{_≡_, refl, sym, ap, _∙_}
 use mathlib.Core.Bool.{Bool, false}
-use mathlib.Core.List.{List}
+use mathlib.Core.List.{List, map}
 use Prim.Native.Nat.{ℕ, _+_, _-_, _≤_, _<_}
 use native.Mathlib.Nat.{not-suc-le-zero}
 use native.Mathlib.Decide.{decLt}
@@ -12,6 +12,8 @@ use lib.Seq.{getD-set-same, getD-set-other}
 use lib.Count.{ones, ones-le}
 use Rattle.loads.specs.Theory.{sum-cong, sum-add}
 use Rattle.common.specs.Bits.{bit}
+use Rattle.common.specs.Lists.{range}
+use Rattle.common.specs.ListLaws.{length-map-range, getD-map-range}
 use Rattle.grid.specs.Grid.{slots, at, volume, Grid, Rearranged}
 use Rattle.grid.specs.MoveLaws.{rearranged-none}
 use Rattle.grid.specs.MarkLaws.{same-refl}
@@ -94,3 +96,16 @@ module _ {F R : List ℕ} (g : Grid F R) where
         go u (no k) =
             let past : (L : List ℕ) → length L ≡ slots → at L u ≡ 0 = λ L e. List·getD-eq-default L 0 (omega arith) in
             omega (arith, past C (l .long), ap ones (past F (g .fed)), ap ones (past R (g .rest)), ones-le 0 0 (omega arith))
+
+  -- such numbers there are for every grid
+  pub some-widths : (C : List ℕ) × Widths F R C
+  some-widths =
+      let all = map (width F R) (range 0 slots) in (
+        all,
+        widths-of (record {
+          within = omega arith;
+          long = length-map-range (width F R) slots;
+          is = λ u l. getD-map-range (width F R) 0 slots u l;
+        })
+            (omega arith),
+      )

@@ -12,7 +12,7 @@ use Rattle.grid.specs.Grid.{slots, at, load, volume, Grid}
 abbrev pub rations : ℕ
 rations = 64
 
--- ration j is fed in k slots more, of those in which it rested; all else is as it was
+-- ration j is fed in k slots of its window more, and every other ration as often as before; in which slots is not said
 pub record Fed (j k : ℕ) (F R F′ R′ : List ℕ) : Type 0 where
   pub grid : Grid F′ R′
   pub words : (t : ℕ) → at F′ t + at R′ t ≡ at F t + at R t
@@ -49,17 +49,17 @@ pub record FedPass (j left left′ : ℕ) (F R H F′ R′ : List ℕ) : Type 0 
   pub fed : Fed j made F R F′ R′
   pub tried : 0 < left′ → (t : ℕ) → t < slots → Tried j (at H t) F′ R′ t
 
--- what `feed_ration` requires: ration j rests in as many slots as it is to be fed in
+-- what `feed_ration` requires: ration j rests in at least as many slots as it is to be fed in
 pub record CanPlace (F R H : List ℕ) (j more : ℕ) : Type 0 where
   pub pass : CanPass F R H j
   pub few : (t : ℕ) → at F t + at R t < 2 ^ rations
   pub fits : more ≤ volume R j
 
--- what `set_volume` requires: ration j is fed in `old` slots, and its window has `new`
+-- what `set_volume` requires: ration j is fed in `old` slots, and its window has at least `new`
 pub record CanSet (F R H : List ℕ) (j old new : ℕ) : Type 0 where
   pub pass : CanPass F R H j
   pub few : (t : ℕ) → at F t + at R t < 2 ^ rations
-  pub before : volume F j ≡ old
+  pub volume-is : volume F j ≡ old
   pub fits : new ≤ volume F j + volume R j
 
 -- what it ensures: ration j is fed in `new` slots of its window; all other rations are fed as often as before
@@ -67,15 +67,16 @@ pub record FedIn (j new : ℕ) (F R F′ R′ : List ℕ) : Type 0 where
   pub grid : Grid F′ R′
   pub words : (t : ℕ) → at F′ t + at R′ t ≡ at F t + at R t
   pub bits : (i t : ℕ) → bit (at F′ t) i + bit (at R′ t) i ≡ bit (at F t) i + bit (at R t) i
-  pub now : volume F′ j ≡ new
+  pub volume-is : volume F′ j ≡ new
   pub others : (i : ℕ) → i ≢ j → volume F′ i ≡ volume F i
 
--- what `place_again` requires: the rations are fed as often as N says, and their windows have the slots of N′
+-- what `place_again` requires: the rations are fed as often as N says, and each window has at least as many slots as N′
+-- says
 pub record CanPlaceAgain (F R H N N′ : List ℕ) : Type 0 where
   pub grid : Grid F R
   pub highs : length H ≡ slots
   pub few : (t : ℕ) → at F t + at R t < 2 ^ rations
-  pub before : (j : ℕ) → j < rations → volume F j ≡ at N j
+  pub volumes : (j : ℕ) → j < rations → volume F j ≡ at N j
   pub fits : (j : ℕ) → j < rations → at N′ j ≤ volume F j + volume R j
 
 -- what it ensures: they are fed as often as N′ says, in the same windows
@@ -85,7 +86,7 @@ pub record PlacedAgain (N′ F R F′ R′ : List ℕ) : Type 0 where
   pub bits : (i t : ℕ) → bit (at F′ t) i + bit (at R′ t) i ≡ bit (at F t) i + bit (at R t) i
   pub volumes : (j : ℕ) → j < rations → volume F′ j ≡ at N′ j
 
--- what `place_first` requires: each window has as many slots as its ration's volume
+-- what `place_first` requires: each window has at least as many slots as its ration's volume
 pub record CanStart (W N H : List ℕ) : Type 0 where
   pub windows : length W ≡ slots
   pub highs : length H ≡ slots

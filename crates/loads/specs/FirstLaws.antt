@@ -19,10 +19,10 @@ use Rattle.loads.specs.First.{rations, Fed, Tried, CanFeed, FedSlot, Can
 
 -- ---- feedings of one ration
 
-pub fed-none : {j : ℕ} {F R : List ℕ} → Grid F R → Fed j 0 F R F R
+fed-none : {j : ℕ} {F R : List ℕ} → Grid F R → Fed j 0 F R F R
 fed-none g = record { grid = g; words = λ t. refl; bits = λ i t. refl; more = omega arith; others = λ i n. refl }
 
-pub fed-trans : {j k m : ℕ} {F R F₁ R₁ F′ R′ : List ℕ} → Fed j k F R F₁ R₁ → Fed j m F₁ R₁ F′ R′ → Fed j (k + m) F R F′ R′
+fed-trans : {j k m : ℕ} {F R F₁ R₁ F′ R′ : List ℕ} → Fed j k F R F₁ R₁ → Fed j m F₁ R₁ F′ R′ → Fed j (k + m) F R F′ R′
 fed-trans p q =
     record {
       grid = q .grid;
@@ -140,7 +140,7 @@ module _ {F₀ R₀ H : List ℕ} {j : ℕ} (p : CanPass F₀ R₀ H j) where
 -- ---- one ration: the second pass takes every slot that is left of its window
 
 -- more than a slot can hold
-abbrev pub beyond : ℕ
+abbrev beyond : ℕ
 beyond = suc rations
 
 volume-none : (R : List ℕ) (j : ℕ) → ((t : ℕ) → t < slots → bit (at R t) j ≡ 0) → volume R j ≡ 0
@@ -149,9 +149,6 @@ volume-none R j z = sum-cong z ∙ sum-zero slots
 
 module _ {F R H : List ℕ} {j v : ℕ} (p : CanPlace F R H j v) where
   module _ {left : ℕ} {F₁ R₁ : List ℕ} (a : FedPass j v left F R H F₁ R₁) where
-    pub second-pass : CanPass F₁ R₁ (replicate slots beyond) j
-    second-pass = record { grid = a .fed .grid; highs = length-replicate slots beyond; ration = p .pass .ration }
-
     module _ {left′ : ℕ} {F′ R′ : List ℕ} (b : FedPass j left left′ F₁ R₁ (replicate slots beyond) F′ R′) where
       both : Fed j (a .made + b .made) F R F′ R′
       both = fed-trans (a .fed) (b .fed)
@@ -195,11 +192,11 @@ module _ {F R H : List ℕ} {j v : ℕ} (p : CanPlace F R H j v) where
 module _ {F R H : List ℕ} {j old new : ℕ} (p : CanSet F R H j old new) where
   -- a greater one: it is fed in so many slots more
   pub more-fed : old ≤ new → CanPlace F R H j (new - old)
-  more-fed l = record { pass = p .pass; few = p .few; fits = omega (arith, p .before, p .fits) }
+  more-fed l = record { pass = p .pass; few = p .few; fits = omega (arith, p .volume-is, p .fits) }
 
   pub set-more : {F′ R′ : List ℕ} → old ≤ new → Fed j (new - old) F R F′ R′ → FedIn j new F R F′ R′
   set-more l f =
-      record { grid = f .grid; words = f .words; bits = f .bits; now = omega (arith, p .before, f .more); others = f .others }
+      record { grid = f .grid; words = f .words; bits = f .bits; volume-is = omega (arith, p .volume-is, f .more); others = f .others }
 
   -- a smaller one: on the exchanged words it is
   pub more-at-rest : new < old → CanPlace R F H j (old - new)
@@ -207,7 +204,7 @@ module _ {F R H : List ℕ} {j old new : ℕ} (p : CanSet F R H j old new) where
       record {
         pass = record { grid = grid-exchange (p .pass .grid); highs = p .pass .highs; ration = p .pass .ration };
         few = λ t. omega (arith, p .few t);
-        fits = omega (arith, p .before);
+        fits = omega (arith, p .volume-is);
       }
 
   pub set-fewer : {F′ R′ : List ℕ} → new < old → Fed j (old - new) R F R′ F′ → FedIn j new F R F′ R′
@@ -216,7 +213,7 @@ module _ {F R H : List ℕ} {j old new : ℕ} (p : CanSet F R H j old new) where
         grid = grid-exchange (f .grid);
         words = λ t. omega (arith, f .words t);
         bits = bits;
-        now = omega (arith, volume-both F R F′ R′ j (bits j), f .more, p .before);
+        volume-is = omega (arith, volume-both F R F′ R′ j (bits j), f .more, p .volume-is);
         others = λ i n. omega (arith, volume-both F R F′ R′ i (bits i), f .others i n);
       }
     where
@@ -231,7 +228,7 @@ pub record PlacingAgain (N′ F₀ R₀ F R : List ℕ) (j : ℕ) : Type 0 where
   pub words : (t : ℕ) → at F t + at R t ≡ at F₀ t + at R₀ t
   pub bits : (i t : ℕ) → bit (at F t) i + bit (at R t) i ≡ bit (at F₀ t) i + bit (at R₀ t) i
   pub volumes : (i : ℕ) → i < j → volume F i ≡ at N′ i
-  pub before : (i : ℕ) → j ≤ i → volume F i ≡ volume F₀ i
+  pub still : (i : ℕ) → j ≤ i → volume F i ≡ volume F₀ i
 
 module _ {F₀ R₀ H N N′ : List ℕ} (p : CanPlaceAgain F₀ R₀ H N N′) where
   pub again-none : PlacingAgain N′ F₀ R₀ F₀ R₀ 0
@@ -242,7 +239,7 @@ module _ {F₀ R₀ H N N′ : List ℕ} (p : CanPlaceAgain F₀ R₀ H N N′) 
         words = λ t. refl;
         bits = λ i t. refl;
         volumes = λ i l. absurd (not-suc-le-zero l);
-        before = λ i l. refl;
+        still = λ i l. refl;
       }
 
   module _ {F R : List ℕ} {j : ℕ} (l : PlacingAgain N′ F₀ R₀ F R j) where
@@ -251,7 +248,7 @@ module _ {F₀ R₀ H N N′ : List ℕ} (p : CanPlaceAgain F₀ R₀ H N N′) 
         record {
           pass = record { grid = l .grid; highs = p .highs; ration = k };
           few = λ t. omega (arith, l .words t, p .few t);
-          before = l .before j (omega arith) ∙ p .before j k;
+          volume-is = l .still j (omega arith) ∙ p .volumes j k;
           fits = omega (arith, p .fits j k, volume-both F₀ R₀ F R j (l .bits j));
         }
 
@@ -263,8 +260,8 @@ module _ {F₀ R₀ H N N′ : List ℕ} (p : CanPlaceAgain F₀ R₀ H N N′) 
           words = λ t. f .words t ∙ l .words t;
           bits = λ i t. f .bits i t ∙ l .bits i t;
           volumes =
-              below-more (λ (i : ℕ). volume F′ i ≡ at N′ i) j (λ i m. f .others i (λ e. omega arith) ∙ l .volumes i m) (f .now);
-          before = λ i m. f .others i (λ e. omega arith) ∙ l .before i (omega arith);
+              below-more (λ (i : ℕ). volume F′ i ≡ at N′ i) j (λ i m. f .others i (λ e. omega arith) ∙ l .volumes i m) (f .volume-is);
+          still = λ i m. f .others i (λ e. omega arith) ∙ l .still i (omega arith);
         }
 
     pub placed-again : rations ≤ j → PlacedAgain N′ F₀ R₀ F R
@@ -294,7 +291,7 @@ can-place-again {W} {F = F} {R} s p =
       grid = s .grid;
       highs = p .highs;
       few = λ t. omega (arith, s .words t, p .few t);
-      before = s .volumes;
+      volumes = s .volumes;
       fits = λ j l. omega (arith, p .fits j l, volume-split W F R j (s .bits j));
     }
 

@@ -1,9 +1,6 @@
 // The first placing: each ration is fed in slots of its window that have room below their highs, and where too few
 // have, in any others of its window. So only a feeding that does not fit straight away asks for a search later. Another
 // placing of the same windows with other volumes is made from one that is there.
-ghost use mathlib.Core.Path.{_≡_};
-ghost use lib.Dec.{eqb};
-ghost use Rattle.common.specs.Bits.{bit};
 ghost use Rattle.loads.specs.First.{CanFeed, FedSlot, CanPass, FedPass, CanPlace, Fed, CanSet, FedIn, CanPlaceAgain, PlacedAgain, CanStart, Started};
 use crate::RATIONS;
 use grid::SLOTS;
@@ -81,7 +78,7 @@ fn feed_ration(
 }
 
 // Brings ration j from its old volume to a new one. Where that is smaller, it rests in so many slots more, which is to
-// feed it in them on the exchanged words.
+// feed it in them on the exchanged words; which feedings are then taken out, the highs only happen to decide.
 fn set_volume(
     fed: &mut [u64; SLOTS],
     rest: &mut [u64; SLOTS],
@@ -100,7 +97,8 @@ fn set_volume(
     }
 }
 
-// Brings every ration from its old volume to its new one, and leaves all other feedings where they are.
+// Brings every ration from its old volume to its new one. All other feedings stay where they are, which is for the cost
+// and not promised.
 pub fn place_again(
     fed: &mut [u64; SLOTS],
     rest: &mut [u64; SLOTS],

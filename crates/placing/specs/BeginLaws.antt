@@ -14,6 +14,7 @@ use Rattle.loads.specs.First.{Started, PlacedAgain}
 use Rattle.loads.specs.Meaning.{Places, seenAt}
 use Rattle.loads.specs.MeaningLaws.{count-load, places-placing, places-moved}
 use Rattle.loads.specs.HeldLaws.{words-closed}
+use Rattle.loads.specs.ExchangeLaws.{some-widths}
 use Rattle.loads.specs.FirstLaws.{started-none, started-moved, started-again}
 use Rattle.loads.specs.StartLaws.{relieved-state, relieved-critical, relieved-none, started-places}
 use Rattle.common.specs.Tests.{false-of-not-true}
@@ -101,10 +102,15 @@ module _ {W N F R H F′ R′ C′ S′ : List ℕ} {r : Bool} (h : length H ≡
       }
 
 -- with other volumes
-pub begun-again : {N N′ H F R F₁ R₁ F′ R′ C′ S′ : List ℕ} {r : Bool} → length H ≡ 96 → PlacedAgain N′ F R F₁ R₁ → Relieved r F₁ R₁ H F′ R′ S′
-    → Widths F′ R′ C′ → BegunAgain r N N′ H F R F′ R′ C′ S′
-begun-again h p w c =
-    record { holds = λ W s. started-moved (started-again s p) (w .moved); begun = λ W s. begun h (started-again s p) w c }
+pub begun-again : {N N′ H F R F₁ R₁ F′ R′ S′ : List ℕ} {r : Bool} → length H ≡ 96 → PlacedAgain N′ F R F₁ R₁ → Relieved r F₁ R₁ H F′ R′ S′
+    → BegunAgain r N N′ H F R F′ R′ S′
+begun-again h p w =
+    let c = some-widths (w .moved .grid) in
+    record {
+      holds = λ W s. started-moved (started-again s p) (w .moved);
+      answer = λ W s. begun h (started-again s p) w (c .1) .answer;
+      marks-long = λ e. w .held e .stuck .marks;
+    }
 
 -- words in which nothing is fed hold the windows with no volume
 pub holds-none : {W : List ℕ} → length W ≡ maxSlots → Holds W (replicate maxRations 0) (replicate maxSlots 0) W

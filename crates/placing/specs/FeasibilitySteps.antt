@@ -11,6 +11,7 @@ use lib.ListN.{length, getD, take, set, replicate, length-append, length-take, l
 use lib.Seq.{length-take-le, getD-take, take-suc, set-append-seam, getD-append-add}
 use Rattle.checks.specs.Limits.{maxSlots}
 use Rattle.theory.specs.Placing.{size}
+use Rattle.loads.specs.First.{CanStart}
 use Rattle.loads.specs.StartLaws.{given-start}
 use Rattle.schedules.specs.Schedules.{Demand, windowOf, volumeOf, AtMost, feasible}
 use Rattle.schedules.specs.Theorems.{infeasible-tighter}
@@ -60,8 +61,11 @@ module _ {slots : ℕ} {W N : List ℕ} (d : SomeDemands slots W N) where
         ap (λ k. size k (free (d .demands) j)) (d .words .windows .all-day j l),
       )
 
+  pub can-start : {H : List ℕ} → length H ≡ maxSlots → CanStart W N H
+  can-start h = given-start (d .words .given) h fits
+
   pub can-begin : {H C : List ℕ} → length H ≡ maxSlots → length C ≡ maxSlots → CanBegin W N H C
-  can-begin h c = record { start = given-start (d .words .given) h fits; spares = c }
+  can-begin h c = record { start = can-start h; spares = c }
 
 pub high-words : {slots : ℕ} {H : List ℕ} → slots ≤ maxSlots → length H ≡ maxSlots → HighWords slots (take slots H) H
 high-words {slots} {H} s h =

@@ -109,14 +109,15 @@ Holds = Started
 
 -- what `begin_again` requires: the words hold a placing with the volumes N, and each volume of N′ is at most its
 -- window's length
-pub record CanBeginAgain (N N′ H F R C : List ℕ) : Type 0 where
+pub record CanBeginAgain (N N′ H F R : List ℕ) : Type 0 where
   pub windows : List ℕ
   pub holds : Holds windows N F R
   pub start : CanStart windows N′ H
-  pub spares : length C ≡ 96
 
--- what it ensures: of the windows that the words had, what `begin` ensures; and the words hold a placing with the
--- volumes N′, within the highs or not
-pub record BegunAgain (r : Bool) (N N′ H F R F′ R′ C′ S′ : List ℕ) : Type 0 where
+-- what it ensures: whether the demands of these windows with the volumes N′ have a sound placing within the highs; and
+-- the words hold a placing with these volumes, within the highs or not
+pub record BegunAgain (r : Bool) (N N′ H F R F′ R′ S′ : List ℕ) : Type 0 where
   pub holds : (W : List ℕ) → Holds W N F R → Holds W N′ F′ R′
-  pub begun : (W : List ℕ) → Holds W N F R → Begun r W N′ H F′ R′ C′ S′
+  pub answer : (W : List ℕ) → Holds W N F R → (slots : ℕ) (ds : List Demand) (high : List ℕ) → DemandWords slots ds W N′ → HighWords slots high H
+      → r ≡ feasible slots ds (replicate slots 0) high
+  pub marks-long : r ≡ false → length S′ ≡ 96

@@ -43,6 +43,6 @@ pub record Added (x release deadline : ℕ) (W W′ : List ℕ) : Type 0 where
   pub long : length W′ ≡ maxSlots
   pub words : (t : ℕ) → getD W′ t 0 ≡ getD W t 0 + pick (inWindow release deadline t) x
 
--- what it ensures: the words of the window's slots have the bit j
+-- what `mark_window` ensures: the words of the window's slots have the bit j
 abbrev pub Marked : (j release deadline : ℕ) (W W′ : List ℕ) → Type 0
 Marked j = Added (2 ^ j)

@@ -1,6 +1,5 @@
-// The first sound placing of a day, or the slots that show why there is none.
-ghost use mathlib.Core.Path.{_≡_};
-ghost use Prim.Native.Nat.{_≤_};
+// The first sound placing of a day, or the slots that show why there is none; from nothing, or from a placing of the
+// same windows with other volumes.
 ghost use Rattle.placing.specs.Represents.{CanBegin, Begun, CanBeginAgain, BegunAgain};
 use loads::first;
 use loads::relief;
@@ -28,24 +27,22 @@ pub fn begin(
     within
 }
 
-// The same of the same windows with other volumes, from whatever placing with the volumes `old` the words hold: only
-// what is more or less of each ration is fed or taken out, and all other feedings stay where they are until a search
-// moves them. Where it can't be done, the words hold a placing with these volumes all the same.
+// Whether every ration can be placed within the highs, of the same windows with other volumes, from whatever placing
+// with the volumes `old` the words hold: only what is more or less of each ration is fed or taken out, and a search
+// moves the rest where it must, which is for the cost and not promised. Where it can't be done, the marks are left on
+// slots that show why, and the words hold a placing with these volumes all the same.
 pub fn begin_again(
     old: &[u8; 64],
     volumes: &[u8; 64],
     high: &[u8; 96],
     fed: &mut [u64; 96],
     rest: &mut [u64; 96],
-    spare: &mut [u8; 96],
     seen: &mut [u8; 96],
 ) -> bool
-    requires { ⌜ CanBeginAgain (now old) (now volumes) (now high) (now fed) (now rest) (now spare) ⌝ }
+    requires { ⌜ CanBeginAgain (now old) (now volumes) (now high) (now fed) (now rest) ⌝ }
     ensures { λ r. ⌜ BegunAgain r (now (old .entry)) (now (volumes .entry)) (now (high .entry)) (now (fed .entry)) (now (rest .entry))
-        (now (fed .exit)) (now (rest .exit)) (now (spare .exit)) (now (seen .exit)) ⌝ }
+        (now (fed .exit)) (now (rest .exit)) (now (seen .exit)) ⌝ }
 {
     first::place_again(fed, rest, high, old, volumes);
-    let within = relief::relieve(fed, rest, high, seen);
-    relief::widths(fed, rest, spare);
-    within
+    relief::relieve(fed, rest, high, seen)
 }

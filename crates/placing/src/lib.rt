@@ -1,10 +1,10 @@
 // Placing: whether a sound placing of a day's rations exists, and one if so.
 //
 // A sound placing gives each ration its volume of distinct slots of its window and keeps each slot between a low and a
-// high. `begin` makes one or marks the slots that show why there is none; `idle` and `busy` set one slot's bound, or
-// say that it can't be; `idle_or_cause` and `busy_or_cause` do the same and say why it can't. What a yes or no means is
-// stated over the definitions of `schedules`; how the words hold a placing is known to this crate and to `feedings`
-// alone.
+// high. `begin` makes one or marks the slots that show why there is none, and `begin_again` does so for other volumes
+// of the same windows, from the placing at hand; `idle` and `busy` set one slot's bound, or say that it can't be;
+// `idle_or_cause` and `busy_or_cause` do the same and say why it can't. What a yes or no means is stated over the
+// definitions of `schedules`; how the words hold a placing is known to this crate and to `feedings` alone.
 //
 // The public modules are for the layers above.
 pub mod begin;

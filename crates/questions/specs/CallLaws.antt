@@ -61,9 +61,9 @@ module _ {own : List Refusal} {s : Sheet} (checks : OwnChecks own s) (marks : Li
       go false e = (leZ-yes tt, leZ-yes tt)
 
   -- where it is above zero, the rations have no sound placing
-  pub lacking-infeasible : ltZ (pos 0) (shortfallFor own s marks .shortfall) ≡ true → feasible (s .slots) (demandsOf s) (noLow s) (fullHigh s) ≡ false
+  pub deficient-infeasible : ltZ (pos 0) (shortfallFor own s marks .shortfall) ≡ true → feasible (s .slots) (demandsOf s) (noLow s) (fullHigh s) ≡ false
   unfolding shortfallFor sheetShortfall noLow fullHigh
-  lacking-infeasible above = false-of-not-true _ (λ p. go (eqb (marksRefusal own s marks .number) 0) refl above p)
+  deficient-infeasible above = false-of-not-true _ (λ p. go (eqb (marksRefusal own s marks .number) 0) refl above p)
     where
       low : length (replicate {A = ℕ} (s .slots) 0) ≡ s .slots
       low = length-replicate (s .slots) 0

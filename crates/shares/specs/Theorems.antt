@@ -15,7 +15,7 @@ use Rattle.checks.specs.RangeLaws.{ValuesInRange}
 use Rattle.sheet.specs.OwnCheckLaws.{bytes-checked}
 use Rattle.schedules.specs.Schedules.{Schedule, feasible}
 use Rattle.schedules.specs.Demands.{noLow}
-use Rattle.cuts.specs.Cuts.{maxShare, cutSheet, hasPlacing, greatestShare}
+use Rattle.cuts.specs.Cuts.{maxShare, cutSheet, feasibleSheet, greatestShare}
 use Rattle.cuts.specs.ShareLaws.{cut-in-range, cut-whole-sheet}
 use Rattle.cuts.specs.Theorems.{share-most, greatest-possible, share-has, no-greater, whole-iff}
 use Rattle.planning.specs.Problem.{alone, MayPlace, ProblemInRange, canBePlanned}
@@ -27,8 +27,8 @@ use Rattle.shares.specs.Shares.{shareProblem, shareRefusal}
 -- Any share -------------------------------------------------------------------------
 
 -- a sheet planned alone can be planned where its rations have a sound placing
-planned-iff : (s : Sheet) → canBePlanned (alone s) ≡ hasPlacing s
-unfolding canBePlanned hasPlacing
+planned-iff : (s : Sheet) → canBePlanned (alone s) ≡ feasibleSheet s
+unfolding canBePlanned feasibleSheet
 planned-iff s = ap₂ (λ ds high. feasible (s .slots) ds (noLow s) high) (left-alone s) (room-alone s)
 
 -- the numbers of the sheet of a share are in range

@@ -42,13 +42,13 @@ pub enum Kind {
     OverloadedWholeDay,
     /// Such a mixed sheet. Held.
     OverloadedMixed,
-    /// Windows of up to a sixth of the day, or up to half of it, and at least half of each window asked for. Held.
+    /// Windows up to a length that is drawn from a sixth to half of the day; at least half of each is asked for. Held.
     OverloadedShort,
 }
 
 pub const KINDS: [Kind; 4] = [Kind::WholeDay, Kind::Mixed, Kind::Tight, Kind::Held];
 
-/// Those that rations are cut on: some fit, some lack little, and some ask for a multiple of what can be fed.
+/// Those that rations are cut on: some fit, some lack little, and some ask for more, up to a multiple of what can be fed.
 pub const SHARE_KINDS: [Kind; 7] = [
     Kind::WholeDay,
     Kind::Mixed,

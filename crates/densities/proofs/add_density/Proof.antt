@@ -1,4 +1,4 @@
--- `densities::add_density` meets its contract: after t slots those of the window before slot t have the density more.
+-- `densities::add_density` meets its contract: after t slots those of the window before slot t have so many parts more.
 -- Assumes nothing.
 use Prim.Native.Nat.{_-_}
 use Rattle.placing.specs.WindowSteps.{AddedTo, add-begin, add-here, add-next, add-end}
@@ -8,10 +8,10 @@ use Rattle.densities.proofs.add_density.Statement.{statement}
 use Rattle.densities.proofs.add_density.Tie as tie
 
 abbrev Inv-loop : tie.InvT-loop
-Inv-loop sums₀ release deadline density t₀ sums t = AddedTo density release deadline t sums₀ sums
+Inv-loop sums₀ release deadline parts t₀ sums t = AddedTo parts release deadline t sums₀ sums
 
 abbrev μ-loop : tie.MeasureT-loop
-μ-loop sums₀ release deadline density t₀ sums t = deadline - t
+μ-loop sums₀ release deadline parts t₀ sums t = deadline - t
 
 sub-t : tie.Need-sub-t Inv-loop μ-loop
 sub-t c = omega arith

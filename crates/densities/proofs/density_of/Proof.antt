@@ -2,7 +2,6 @@
 use mathlib.Core.Path.{refl}
 use Rattle.densities.specs.Densities.{density}
 use borrow.Author.Needs.{needs}
-use borrow.Author.Needs.{needs}
 use Rattle.densities.proofs.density_of.Statement.{statement}
 use Rattle.densities.proofs.density_of.Tie as tie
 

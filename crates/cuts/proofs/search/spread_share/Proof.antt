@@ -5,7 +5,6 @@ use Rattle.cuts.specs.SpreadShareLaws.{spread-placing}
 use Rattle.cuts.proofs.SearchSteps.{sheet-rations, few-blowers, share-of}
 use native.Mathlib.Omega.{arith}
 use borrow.Author.Needs.{needs}
-use borrow.Author.Needs.{needs}
 use Rattle.cuts.proofs.search.spread_share.Statement.{statement}
 use Rattle.cuts.proofs.search.spread_share.Tie as tie
 

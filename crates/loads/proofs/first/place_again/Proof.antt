@@ -1,5 +1,5 @@
--- `loads::first::place_again` meets its contract. The loop keeps what `PlacingAgain` says of the rations passed. Assumes
--- nothing.
+-- `loads::first::place_again` meets its contract. The loop keeps what `PlacingAgain` says of the rations passed.
+-- Assumes nothing.
 use Prim.Native.Nat.{_-_}
 use native.Mathlib.Omega.{arith}
 use borrow.Author.Needs.{needs}

@@ -1,4 +1,5 @@
--- `loads::first::set_volume` meets its contract: a smaller volume is a greater one of the exchanged words. Assumes nothing.
+-- `loads::first::set_volume` meets its contract: a smaller volume is a greater one of the exchanged words. Assumes
+-- nothing.
 use Rattle.loads.specs.FirstLaws.{more-fed, set-more, more-at-rest, set-fewer}
 use native.Mathlib.Omega.{arith}
 use borrow.Author.Needs.{needs}

@@ -11,11 +11,8 @@ place-again-requires c κs = let p = c .before .before .pre in can-place-again (
 relieve-requires : tie.Need-relieve-requires
 relieve-requires c κs = search needs
 
-widths-requires : tie.Need-widths-requires
-widths-requires c κs = search needs
-
 returns : tie.Need-returns
-returns c = begun-again (c .before .before .before .before .before .before .before .before .before .before .before .pre .start .highs) (c .before .before .before .before .before .before .before .before .place-again .ensures) (c .before .before .before .before .relieve .ensures) (c .widths .ensures)
+returns c = begun-again (c .before .before .before .before .before .before .before .pre .start .highs) (c .before .before .before .before .place-again .ensures) (c .relieve .ensures)
 
 pub begin-again-spec : {M : Type 1} → statement M
-begin-again-spec = tie.close (tie.spec place-again-requires relieve-requires widths-requires returns)
+begin-again-spec = tie.close (tie.spec place-again-requires relieve-requires returns)
