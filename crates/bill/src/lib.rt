@@ -12,14 +12,14 @@ pub use rates::amount_of;
 pub use tallies::day_charge;
 
 // A blower's charge, in tenths of a cent, and its state in the last slot taken; it is off (0) before slot 1.
-#[derive(Drop)]
+#[derive(Clone, Copy)]
 pub struct Tally {
     pub charge: u32,
     pub state: u32,
 }
 
 // Whole hundreds of cents, and the remaining cents.
-#[derive(Drop)]
+#[derive(Clone, Copy)]
 pub struct Amount {
     pub hundreds: u32,
     pub remaining: u32,

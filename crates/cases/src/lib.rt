@@ -20,7 +20,7 @@ pub use payloads::{first_part, numbers, second_part};
 pub const CASES: u32 = 100000;
 
 // A case: its operation, its number, and the length of its payload.
-#[derive(Drop)]
+#[derive(Clone, Copy)]
 pub struct Case {
     pub operation: u8,
     pub number: u32,

@@ -13,7 +13,7 @@ use placing::Cause;
 
 // A stretch that ends before the day's last slot: its blower, its ends and its cause. Of the idle stretch without slots
 // `first` is 1 and `last` 0.
-#[derive(Drop)]
+#[derive(Clone, Copy)]
 pub struct CausedStretch {
     pub blower: u8,
     pub first: usize,
@@ -22,14 +22,14 @@ pub struct CausedStretch {
 }
 
 // The listing so far: its length, and whether an entry did not fit.
-#[derive(Drop)]
+#[derive(Clone, Copy)]
 pub struct Extent {
     pub length: usize,
     pub cut: bool,
 }
 
 // The slots of a cause in two words: slot t + 1 is bit t of the first, or bit t − 64 of the second.
-#[derive(Drop)]
+#[derive(Clone, Copy)]
 pub struct SlotWords {
     pub first: u64,
     pub second: u64,

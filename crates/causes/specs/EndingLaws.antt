@@ -21,7 +21,7 @@ use Rattle.causes.specs.ReadCauses.{entries_in, entry_of}
 use Rattle.causes.specs.ReadCauseLaws.{lines_for, InFields, fit_entries, entries_read}
 
 in_take : (n : ℕ) (es : List EndedStretch) (e : EndedStretch) → Memᴰ e (take n es) → Memᴰ e es
-in_take zero es e i = absurd (Memᴰ.not_nil i)
+in_take zero es e i = absurd (Memᴰ.not-nil i)
 in_take (suc n) [] e i = i
 in_take (suc n) (f ∷ es) e i = go (Memᴰ.cases_cons i) (in_take n es e)
   where

@@ -60,7 +60,7 @@ pub record InFields (slots : ℕ) (e : EndedStretch) : Type 0 where
 
 members_below : (t : ℕ) (q : Slots) (l : Line) → Memᴰ l (member_lines t q) → (l.a < t + length q) × (l.b ≡ 0) × (l.c ≡ 0) × (l.d ≡ 0)
 unfolding member_lines members_from
-members_below t [] l i = absurd (Memᴰ.not_nil i)
+members_below t [] l i = absurd (Memᴰ.not-nil i)
 members_below t (false ∷ q) l i = let b = members_below (suc t) q l i in (omega (arith, b.0), b.1, b.2, b.3)
 members_below t (true ∷ q) l i = go (Memᴰ.cases_cons i) (members_below (suc t) q l)
   where
@@ -93,7 +93,7 @@ module _ {slots : ℕ} (day : slots ≤ max_slots) where
           }
 
   pub fit_entries : (es : List EndedStretch) → ((e : EndedStretch) → Memᴰ e es → InFields slots e) → FitLines (flat_map lines_for es)
-  fit_entries [] h l i = absurd (Memᴰ.not_nil i)
+  fit_entries [] h l i = absurd (Memᴰ.not-nil i)
   fit_entries (e ∷ es) h l i = go (Memᴰ.append_cases (lines_for e) i) (fit_entries es (λ f j. h f (Memᴰ.tail j)) l)
     where
       go : Memᴰ l (lines_for e) ⊎ Memᴰ l (flat_map lines_for es) → (Memᴰ l (flat_map lines_for es) → FitsLine l) → FitsLine l

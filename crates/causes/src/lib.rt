@@ -10,7 +10,7 @@ pub use calls::list_causes;
 
 // What the call answers: the length of the listing written, and whether it was cut; 0 and no on every refusal.
 #[repr(C)]
-#[derive(Drop)]
+#[derive(Clone, Copy)]
 pub struct CausesAnswer {
     pub number: u32,
     pub line: u32,

@@ -86,7 +86,7 @@ module _ (job : ℕ → Job) where
       ap (numbers_to job) (add-one i)
       ∙ ap (λ r. numbers_of (map job r)) (range_snoc 1 i)
       ∙ ap numbers_of (map-append job (range 1 i) ((1 + i) ∷ []))
-      ∙ flat_map_append _ (map job (range 1 i)) (job (1 + i) ∷ [])
+      ∙ flat_map_append job_numbers (map job (range 1 i)) (job (1 + i) ∷ [])
       ∙ ap (λ k. numbers_to job i ++ job_numbers (job k)) (swap i)
     where
       swap : (i : ℕ) → 1 + i ≡ i + 1

@@ -12,7 +12,7 @@ mod values;
 pub use values::{head_refusal, rations_refusal, value_refusal};
 
 // A refusal's number and the line that it names; 0 and 0 where nothing is refused.
-#[derive(Drop)]
+#[derive(Clone, Copy)]
 pub struct Refusal {
     pub number: u32,
     pub line: u32,

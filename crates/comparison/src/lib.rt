@@ -8,7 +8,7 @@ pub use comparing::compare;
 
 // What a comparison answers: `order` is 0 (no) on a refusal, otherwise 1 (same), 2 (before) or 3 (after).
 #[repr(C)]
-#[derive(Drop)]
+#[derive(Clone, Copy)]
 pub struct Compared {
     pub number: u32,
     pub line: u32,

@@ -21,7 +21,7 @@ const MAX_SHARE: u32 = 100;
 const QUESTIONS: u32 = 7;
 
 // Two shares between which another is looked for.
-#[derive(Drop)]
+#[derive(Clone, Copy)]
 struct Ends {
     low: u32,
     high: u32,

@@ -13,7 +13,7 @@ use cause_lines::Extent;
 pub use days::list_day;
 
 // Where the method is with a blower: it is idle or busy since slot `first`; and the listing so far.
-#[derive(Drop)]
+#[derive(Clone, Copy)]
 pub struct Progress {
     pub busy: bool,
     pub first: usize,
@@ -21,7 +21,7 @@ pub struct Progress {
 }
 
 // A day with the causes of its stretches listed; or held, with nothing written.
-#[derive(Drop)]
+#[derive(Clone, Copy)]
 pub struct DayListed {
     pub held: bool,
     pub length: usize,

@@ -14,7 +14,7 @@ pub use usage::day_use;
 
 // A stretch as its line of the listing gives it: its blower, its first and last slot, and its state (0 off, 1 idle and
 // on, 2 busy).
-#[derive(Drop)]
+#[derive(Clone, Copy)]
 pub struct Stretch {
     pub blower: u32,
     pub first: usize,
@@ -23,14 +23,14 @@ pub struct Stretch {
 }
 
 // A blower's on slots, and its starts.
-#[derive(Drop)]
+#[derive(Clone, Copy)]
 pub struct BlowerUse {
     pub on: usize,
     pub starts: usize,
 }
 
 // The energy of a day, and the starts of all blowers.
-#[derive(Drop)]
+#[derive(Clone, Copy)]
 pub struct DayUse {
     pub energy: u32,
     pub starts: u32,

@@ -71,7 +71,7 @@ fn straight(
 
 // How far a search has come: the rations fed in the slots that it marked, the last number that it gave, and the slot with room that it found,
 // SLOTS for none.
-#[derive(Drop)]
+#[derive(Clone, Copy)]
 struct Front {
     reached: u64,
     last: u8,

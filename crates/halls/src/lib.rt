@@ -14,7 +14,7 @@ use planning::Planned;
 // What planning halls answers: number and line of the call, 0 or 14 and 0, and for each of four halls its own answer,
 // zeros where it is not there.
 #[repr(C)]
-#[derive(Drop)]
+#[derive(Clone, Copy)]
 pub struct HallsPlanned {
     pub number: u32,
     pub line: u32,

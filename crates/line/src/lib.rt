@@ -14,7 +14,7 @@ pub use fields::{field_faulty, field_number};
 pub use lines::put_line;
 
 // What a field holds: a number in the stated form, or something else.
-#[derive(Drop)]
+#[derive(Clone, Copy)]
 pub enum Field {
     Value(u32),
     Faulty,

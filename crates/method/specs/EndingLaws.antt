@@ -229,7 +229,7 @@ module _ {slots : ℕ} {ds : List Demand} (w : Windows slots ds) where
   from_explained : (k : ℕ) (busy : Bool) (first n t : ℕ) {b : Bounds} → FeasibleDay slots ds b → t + n ≡ slots
       → (v : EndedStretch) → Memᴰ v (ended_from slots ds k busy first n t b) → Explained slots ds v
   unfolding ended_from
-  from_explained k busy first zero t h e v m = absurd (Memᴰ.not_nil m)
+  from_explained k busy first zero t h e v m = absurd (Memᴰ.not-nil m)
   from_explained k busy first (suc n) t {b} h e v m =
       go (feasible_under slots ds (keep_at k busy t b)) refl m
       (λ x f g. from_explained k x f n (suc t) {b = keep_at k x t b} g (omega arith) v)
@@ -251,7 +251,7 @@ module _ {slots : ℕ} {ds : List Demand} (w : Windows slots ds) where
 
   each_explained : (m : ℕ) {b : Bounds} → FeasibleDay slots ds b → (v : EndedStretch) → Memᴰ v (ended_each slots ds m b) → Explained slots ds v
   unfolding ended_each
-  each_explained zero h v i = absurd (Memᴰ.not_nil i)
+  each_explained zero h v i = absurd (Memᴰ.not-nil i)
   each_explained (suc m) {b} h v i =
       go (Memᴰ.append_cases (ended_from slots ds (suc m) false 1 slots 0 b) i)
       (each_explained m (settle_from_possible w (suc m) false slots 0 h (omega arith)) v)
@@ -292,7 +292,7 @@ endings_kept slots ds b (r ∷ rs) =
 pub endings_given : (slots : ℕ) (ds : List Demand) (b : Bounds) (rs : List (ℕ × Interval)) (e : EndedStretch) → Memᴰ e (endings slots ds b rs)
     → Memᴰ (e.blower, e.stretch) rs
 unfolding endings
-endings_given slots ds b [] e i = absurd (Memᴰ.not_nil i)
+endings_given slots ds b [] e i = absurd (Memᴰ.not-nil i)
 endings_given slots ds b (r ∷ rs) e i =
     go (ltb r.1.last slots) (Memᴰ.append_cases _ i) (endings_given slots ds (keep_for r.0 r.1.busy r.1.first b (size r.1)) rs e)
   where
@@ -304,17 +304,17 @@ endings_given slots ds b (r ∷ rs) e i =
         → (Memᴰ e (endings slots ds (keep_for r.0 r.1.busy r.1.first b (size r.1)) rs) → Memᴰ (e.blower, e.stretch) rs)
         → Memᴰ (e.blower, e.stretch) (r ∷ rs)
     go x (inr j) ih = Memᴰ.tail (ih j)
-    go false (inl j) ih = absurd (Memᴰ.not_nil j)
+    go false (inl j) ih = absurd (Memᴰ.not-nil j)
     go true (inl j) ih = Memᴰ.head (ap (λ (v : EndedStretch). (v.blower, v.stretch)) (Memᴰ.eq_of_singleton j))
 
 -- those of blowers k, k − 1, .., 1
 pub in_order_blower : (of : ℕ → List Interval) (k : ℕ) (r : ℕ × Interval) → Memᴰ r (in_order of k) → (1 ≤ r.0) × (r.0 ≤ k)
 unfolding in_order
-in_order_blower of zero r i = absurd (Memᴰ.not_nil i)
+in_order_blower of zero r i = absurd (Memᴰ.not-nil i)
 in_order_blower of (suc k) r i = go (Memᴰ.append_cases (map (λ v. (suc k, v)) (of (suc k))) i) (in_order_blower of k r)
   where
     here : (vs : List Interval) → Memᴰ r (map (λ v. (suc k, v)) vs) → r.0 ≡ suc k
-    here [] j = absurd (Memᴰ.not_nil j)
+    here [] j = absurd (Memᴰ.not-nil j)
     here (v ∷ vs) j = at (Memᴰ.cases_cons j) (here vs)
       where
         at : (r ≡ (suc k, v)) ⊎ Memᴰ r (map (λ v. (suc k, v)) vs) → (Memᴰ r (map (λ v. (suc k, v)) vs) → r.0 ≡ suc k) → r.0 ≡ suc k

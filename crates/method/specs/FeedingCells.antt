@@ -77,7 +77,7 @@ range_split a zero b l h = absurd (omega arith)
 range_split a (suc n) b l h = go (eq-or-lt_of_le l) (λ k. range_split (suc a) n b k (omega arith))
   where
     go : (a ≡ b) ⊎ (a < b) → (a < b → Split (λ x. x < b) b (range (suc a) n)) → Split (λ x. x < b) b (a ∷ range (suc a) n)
-    go (inl e) ih = ([], range (suc a) n, ap (λ x. x ∷ range (suc a) n) e, λ x i. absurd (Memᴰ.not_nil i))
+    go (inl e) ih = ([], range (suc a) n, ap (λ x. x ∷ range (suc a) n) e, λ x i. absurd (Memᴰ.not-nil i))
     go (inr k) ih =
         let r = ih k in (
           a ∷ r.0,
@@ -87,7 +87,7 @@ range_split a (suc n) b l h = go (eq-or-lt_of_le l) (λ k. range_split (suc a) n
         )
 
 in_range : (a n x : ℕ) → Memᴰ x (range a n) → x < a + n
-in_range a zero x i = absurd (Memᴰ.not_nil i)
+in_range a zero x i = absurd (Memᴰ.not-nil i)
 in_range a (suc n) x i = ⊎_elim (λ e. omega arith) (λ k. omega (arith, in_range (suc a) n x k)) (Memᴰ.cases_cons i)
 
 flat_map_append : {A B : Type 0} (f : A → List B) (xs ys : List A) → flat_map f (xs ++ ys) ≡ flat_map f xs ++ flat_map f ys

@@ -66,7 +66,7 @@ in_prefer ps c p = go (keep (fed_at c.0 c.1) ps) refl
     f = fed_at c.0 c.1
 
     go : (ks : List Schedule) → keep f ps ≡ ks → Memᴰ p (or_else ks ps) → Memᴰ p ps × ((q : Schedule) → Memᴰ q ps → f q ≡ true → f p ≡ true)
-    go [] e i = (i, λ q k h. absurd (Memᴰ.not_nil (rw e at (to_keep f k h))))
+    go [] e i = (i, λ q k h. absurd (Memᴰ.not-nil (rw e at (to_keep f k h))))
     go (x ∷ ks) e i = let r = in_keep f ps (rw (← e) at i) in (r.0, λ q k h. r.1)
 
 -- and so is every other with the same choice
@@ -111,7 +111,7 @@ left_greedy (a ∷ front) c back ps p q i k h e =
     (λ b m. h b (Memᴰ.tail m)) e
 
 first_mem : {A : Type 0} (z : A) (l : List A) (a : A) → Memᴰ a l → Memᴰ (first_or z l) l
-first_mem z [] a i = absurd (Memᴰ.not_nil i)
+first_mem z [] a i = absurd (Memᴰ.not-nil i)
 first_mem z (x ∷ l) a i = Memᴰ.head refl
 
 module _ {slots : ℕ} {ds : List Demand} (w : Windows slots ds) {counts : List ℕ} (l : length counts ≡ slots) where

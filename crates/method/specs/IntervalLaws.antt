@@ -104,7 +104,7 @@ module _ (f : ℕ → Bool) (to : ℕ) where
 
   -- each interval is a longest run
   fill_longest : (from : ℕ) (vs : List Interval) → Fill f to from vs → (v : Interval) → Memᴰ v vs → LongestRun f to from v
-  fill_longest from [] e v m = absurd (Memᴰ.not_nil m)
+  fill_longest from [] e v m = absurd (Memᴰ.not-nil m)
   fill_longest from (u ∷ us) (r, n) v m = go (Memᴰ.cases_cons m) (fill_longest u.last us n v)
     where
       top : LongestRun f to from u
@@ -157,7 +157,7 @@ module _ (f : ℕ → Bool) (to : ℕ) where
   -- each slot before one of them is in one that stops before it
   fill_earlier : (from : ℕ) (vs : List Interval) → Fill f to from vs → (v : Interval) → Memᴰ v vs → (t : ℕ) → from ≤ t → suc t < v.first
       → (u : Interval) × Memᴰ u vs × (u.first ≤ suc t) × (suc t ≤ u.last) × (u.last < v.first)
-  fill_earlier from [] e v m t l b = absurd (Memᴰ.not_nil m)
+  fill_earlier from [] e v m t l b = absurd (Memᴰ.not-nil m)
   fill_earlier from (u ∷ us) (r, n) v m t l b = go (Memᴰ.cases_cons m) (le_or_lt (suc t) u.last) (λ i. fill_earlier u.last us n v i t)
     where
       go : (v ≡ u) ⊎ Memᴰ v us → (suc t ≤ u.last) ⊎ (u.last < suc t)

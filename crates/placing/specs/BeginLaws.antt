@@ -57,8 +57,8 @@ module _ {W N F R H F' R' C' S' : List ℕ} {r : Bool} (h : length H ≡ 96) (s 
     places : Places (length ds) slots (free ds) (volume_of ds) F R
     places = started_places d.given s
 
-    yes : r ≡ true → Represents slots ds (replicate slots 0) high F' R' H C'
-    yes e =
+    begins : r ≡ true → Represents slots ds (replicate slots 0) high F' R' H C'
+    begins e =
         record {
           windows = d.windows;
           lows = length-replicate slots 0;
@@ -66,8 +66,8 @@ module _ {W N F R H F' R' C' S' : List ℕ} {r : Bool} (h : length H ≡ 96) (s 
           state = state_bounds (relieved_state places w h e c) (λ u l. sym (get_or-replicate slots u 0 0 l)) g.same;
         }
 
-    no : r ≡ false → feasible slots ds (replicate slots 0) high ≡ false
-    no e =
+    none_sound : r ≡ false → feasible slots ds (replicate slots 0) high ≡ false
+    none_sound e =
         false_of_not_true (feasible slots ds (replicate slots 0) high) (λ f.
         let q = sound_bounded d.windows (feasible_sound d.windows (length-replicate slots 0) g.long f).1 in
         relieved_none places w e q.0 (λ u l. omega (arith, q.1 u l, g.same u l)))
@@ -85,8 +85,8 @@ module _ {W N F R H F' R' C' S' : List ℕ} {r : Bool} (h : length H ≡ 96) (s 
         ∙ on_cong (λ t l. refl) (λ t l. count_load q.day t)
 
     answer : (b : Bool) → r ≡ b → r ≡ feasible slots ds (replicate slots 0) high
-    answer true e = e ∙ sym (represents_feasible (yes e))
-    answer false e = e ∙ sym (no e)
+    answer true e = e ∙ sym (represents_feasible (begins e))
+    answer false e = e ∙ sym (none_sound e)
 
   pub begun : Begun r W N H F' R' C' S'
   begun =
@@ -95,7 +95,7 @@ module _ {W N F R H F' R' C' S' : List ℕ} {r : Bool} (h : length H ≡ 96) (s 
         marks_long = λ e. (w.held e).stuck.marks;
         marks_past = unmarked;
         answer = λ slots ds high d g. answer slots ds high d g r refl;
-        yes = λ e slots ds high d g. yes slots ds high d g e;
+        yes = λ e slots ds high d g. begins slots ds high d g e;
         marked = λ e slots ds high d g. marked slots ds high d g e;
         counted = λ e slots ds high d g. counted slots ds high d g e;
       }

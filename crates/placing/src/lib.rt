@@ -18,7 +18,7 @@ pub mod windows;
 
 // Why no sound placing exists with a bound that was asked for. A set of slots is two words: bit t of the first says
 // that slot t + 1 is in it, bit t of the second slot t + 65.
-#[derive(Drop)]
+#[derive(Clone, Copy)]
 pub enum Cause {
     // a low above a high: the slot
     LowAboveHigh(u32),
@@ -29,7 +29,7 @@ pub enum Cause {
 }
 
 // What comes of a bound that was asked for: it is kept from now on, or there is a cause against it.
-#[derive(Drop)]
+#[derive(Clone, Copy)]
 pub enum Answer {
     Yes,
     No(Cause),

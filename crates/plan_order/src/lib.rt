@@ -12,7 +12,7 @@ pub use days::order_of_days;
 pub use numbers::order_number;
 
 // What a comparison answers, said of the first of two sheets.
-#[derive(Drop)]
+#[derive(Clone, Copy)]
 pub enum Order {
     // a sheet is refused
     No,

@@ -56,7 +56,7 @@ tank_le : (s : Sheet) → ValuesInRange 0 s (length s.jobs) true → (tank : ℕ
 tank_le s v tank i = let r = Memᴰ.of_map (λ (j : Job). j.tank) s.jobs i in omega (arith, r.2, go 0 0 s.jobs v.jobs r.0 r.1)
   where
     go : (before until : ℕ) (js : List Job) → JobsInRange 0 s.slots before until js → (j : Job) → Memᴰ j js → j.tank ≤ max_tank
-    go before until [] h j m = absurd (Memᴰ.not_nil m)
+    go before until [] h j m = absurd (Memᴰ.not-nil m)
     go before until (x ∷ js) h j m = step (Memᴰ.cases_cons m) (go x.tank x.deadline js h.1 j)
       where
         step : (j ≡ x) ⊎ Memᴰ j js → (Memᴰ j js → j.tank ≤ max_tank) → j.tank ≤ max_tank
@@ -137,7 +137,7 @@ module _ (s : Sheet) (v : ValuesInRange 0 s (length s.jobs) true) (p : Schedule)
 
       last : (l ≡ bill) ⊎ Memᴰ l [] → FitsLine l
       last (inl e) = subst FitsLine (sym e) bill_fits
-      last (inr k) = absurd (Memᴰ.not_nil k)
+      last (inr k) = absurd (Memᴰ.not-nil k)
 
       more : Memᴰ l feed_ls ⊎ Memᴰ l (bill ∷ []) → FitsLine l
       more (inl k) = fit_feed_lines l k
@@ -180,7 +180,7 @@ sum_same (x ∷ xs) (false ∷ q) m l h = omega (arith, sum_same xs q m (omega a
 -- each slot listed is from the first to the last
 member_le : (t : ℕ) (q : Slots) (u : ℕ) → Memᴰ u (members_from t q) → u < t + length q
 unfolding members_from
-member_le t [] u i = absurd (Memᴰ.not_nil i)
+member_le t [] u i = absurd (Memᴰ.not-nil i)
 member_le t (b ∷ q) u i = go b i (member_le (suc t) q u)
   where
     first : (u ≡ t) ⊎ Memᴰ u (members_from (suc t) q) → (Memᴰ u (members_from (suc t) q) → u < suc t + length q) → u < t + suc (length q)

@@ -9,7 +9,7 @@ use Rattle.common.specs.Lists.{range, keep, flat_map, zip_with}
 -- Ranges --------------------------------------------------------------------------
 
 pub in_range : (a n : ℕ) {k : ℕ} → Memᴰ k (range a n) → (a ≤ k) × (k < a + n)
-in_range a zero m = absurd (Memᴰ.not_nil m)
+in_range a zero m = absurd (Memᴰ.not-nil m)
 in_range a (suc n) {k} m = go (Memᴰ.cases_cons m) (in_range (suc a) n)
   where
     go : (k ≡ a) ⊎ Memᴰ k (range (suc a) n) → (Memᴰ k (range (suc a) n) → (suc a ≤ k) × (k < suc a + n)) → (a ≤ k) × (k < a + suc n)
@@ -86,8 +86,8 @@ module _ {A B C : Type 0} (f : A → List B) (g : B → C) where
 module _ {A B C : Type 0} (f : A → B → C) where
   pub in_zip_with : {c : C} (xs : List A) (ys : List B) → Memᴰ c (zip_with f xs ys)
       → (a : A) × (b : B) × Memᴰ a xs × Memᴰ b ys × (c ≡ f a b)
-  in_zip_with [] ys m = absurd (Memᴰ.not_nil m)
-  in_zip_with (x ∷ xs) [] m = absurd (Memᴰ.not_nil m)
+  in_zip_with [] ys m = absurd (Memᴰ.not-nil m)
+  in_zip_with (x ∷ xs) [] m = absurd (Memᴰ.not-nil m)
   in_zip_with {c} (x ∷ xs) (y ∷ ys) m = go (Memᴰ.cases_cons m) (in_zip_with xs ys)
     where
       go : (c ≡ f x y) ⊎ Memᴰ c (zip_with f xs ys)
@@ -99,8 +99,8 @@ module _ {A B C : Type 0} (f : A → B → C) where
   -- the same by place
   pub at_zip_with : {c : C} (a : A) (b : B) (xs : List A) (ys : List B) → Memᴰ c (zip_with f xs ys)
       → (i : ℕ) × (i < length xs) × (i < length ys) × (c ≡ f (get_or xs i a) (get_or ys i b))
-  at_zip_with a b [] ys m = absurd (Memᴰ.not_nil m)
-  at_zip_with a b (x ∷ xs) [] m = absurd (Memᴰ.not_nil m)
+  at_zip_with a b [] ys m = absurd (Memᴰ.not-nil m)
+  at_zip_with a b (x ∷ xs) [] m = absurd (Memᴰ.not-nil m)
   at_zip_with {c} a b (x ∷ xs) (y ∷ ys) m = go (Memᴰ.cases_cons m) (at_zip_with a b xs ys)
     where
       go : (c ≡ f x y) ⊎ Memᴰ c (zip_with f xs ys)

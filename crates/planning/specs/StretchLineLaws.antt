@@ -37,7 +37,7 @@ stretch_on_line d q k v = λ i. record { first = v.first; last = v.last; busy = 
 
 -- where a stretch is, one that has slots is
 some_stretch : (v : Interval) (vs : List Interval) → Memᴰ v (with_no_slots vs) → (u : Interval) × Memᴰ u vs
-some_stretch v [] i = absurd (Memᴰ.not_nil i)
+some_stretch v [] i = absurd (Memᴰ.not-nil i)
 some_stretch v (u ∷ vs) i = (u, Memᴰ.head refl)
 
 -- One blower ----------------------------------------------------------------------
@@ -99,7 +99,7 @@ module _ (q : ℕ) (counts : List ℕ) where
     on_lines k v i = go (le_or_lt 1 k) (le_or_lt k m)
       where
         none : ((j : ℕ) → 1 ≤ j → j < 1 + m → j ≡ k → ⊥) → (1 ≤ k) × (k ≤ m)
-        none h = absurd (Memᴰ.not_nil (rw (stretches_on_none k h) at i))
+        none h = absurd (Memᴰ.not-nil (rw (stretches_on_none k h) at i))
 
         go : (1 ≤ k) ⊎ (k < 1) → (k ≤ m) ⊎ (m < k) → (1 ≤ k) × (k ≤ m)
         go (inl a) (inl b) = (a, b)

@@ -15,7 +15,7 @@ pub use calls::{day_of, plan_both_of, plan_of, plan_under};
 
 // What a planning call answers: the length is that of the listing written, 0 where none is.
 #[repr(C)]
-#[derive(Drop)]
+#[derive(Clone, Copy)]
 pub struct Planned {
     pub number: u32,
     pub line: u32,

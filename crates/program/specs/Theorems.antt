@@ -95,7 +95,7 @@ refusal_read_back number l f g = reads_as (refusal_text number l) held_word (lin
       where
         only : (x ≡ line number l 0 0) ⊎ Memᴰ x [] → FitsLine x
         only (inl e) = subst FitsLine (sym e) (record { a = f; b = g; c = omega arith; d = omega arith })
-        only (inr k) = absurd (Memᴰ.not_nil k)
+        only (inr k) = absurd (Memᴰ.not-nil k)
 
 -- Practice sheets ---------------------------------------------------------------------------
 

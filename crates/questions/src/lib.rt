@@ -17,7 +17,7 @@ pub use shortfalls::shortfall_of;
 
 // What `shortfall` answers: forced minus capacity, below zero where capacity is spare; 0 on a refusal.
 #[repr(C)]
-#[derive(Drop)]
+#[derive(Clone, Copy)]
 pub struct ShortfallAnswer {
     pub number: u32,
     pub line: u32,
@@ -26,7 +26,7 @@ pub struct ShortfallAnswer {
 
 // What `bounds` answers: whether a sound placing exists; no on a refusal.
 #[repr(C)]
-#[derive(Drop)]
+#[derive(Clone, Copy)]
 pub struct BoundsAnswer {
     pub number: u32,
     pub line: u32,

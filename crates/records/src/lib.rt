@@ -22,7 +22,7 @@ pub use writing::kiwimound_write_rations;
 
 // A ration: one line of a sheet. The layout is C's, so that a slice of rations can be lent from there.
 #[repr(C)]
-#[derive(Drop)]
+#[derive(Clone, Copy)]
 pub struct Ration {
     pub tank: u32,
     pub first: u32,

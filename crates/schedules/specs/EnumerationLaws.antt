@@ -35,7 +35,7 @@ choices_chosen : (e : Slots) (n : ℕ) (c : Slots) → Memᴰ c (choices e n) �
 unfolding choices
 choices_chosen [] zero c k =
     subst (Chosen [] zero) (sym (Memᴰ.eq_of_singleton k)) (record { same_day = refl; exactly = refl; in_window = λ t q. q })
-choices_chosen [] (suc n) c k = absurd (Memᴰ.not_nil k)
+choices_chosen [] (suc n) c k = absurd (Memᴰ.not-nil k)
 choices_chosen (false ∷ e) n c k =
     via_map (Chosen (false ∷ e) n) (λ c. false ∷ c) (choices e n) (λ a i. chosen_skip false e n a (choices_chosen e n a i)) c k
 choices_chosen (true ∷ e) zero c k =

@@ -49,7 +49,7 @@ module _ (slots : ℕ) where
   length_common (q ∷ qs) h = length_meet q (common qs) (h q (Memᴰ.head refl)) (length_common qs (λ r i. h r (Memᴰ.tail i)))
 
   common_in : (qs : List Slots) → Sized qs → (q : Slots) → Memᴰ q qs → (t : ℕ) → t < slots → has (common qs) t ≡ true → has q t ≡ true
-  common_in [] h q m t l e = absurd (Memᴰ.not_nil m)
+  common_in [] h q m t l e = absurd (Memᴰ.not-nil m)
   common_in (r ∷ qs) h q m t l e = go (Memᴰ.cases_cons m) (common_in qs (λ r i. h r (Memᴰ.tail i)) q)
     where
       both : (has r t ≡ true) × (has (common qs) t ≡ true)
@@ -92,7 +92,7 @@ module _ (slots : ℕ) (f g : Slots → ℕ) where
     where
       go : (s : Slots) → (s ≡ q) ⊎ Memᴰ s [] → f s + g q ≤ f q + g s
       go s (inl p) = rw p (omega arith)
-      go s (inr i) = absurd (Memᴰ.not_nil i)
+      go s (inr i) = absurd (Memᴰ.not-nil i)
   best q (r ∷ qs) = go (best r qs)
     where
       go : (b : Slots) × Memᴰ b (r ∷ qs) × ((s : Slots) → Memᴰ s (r ∷ qs) → f s + g b ≤ f b + g s)
@@ -116,7 +116,7 @@ module _ (slots : ℕ) (f g : Slots → ℕ) where
   some_greatest = go (subsets slots) refl
     where
       go : (l : List Slots) → subsets slots ≡ l → (q : Slots) × (length q ≡ slots) × Greatest q
-      go [] e = absurd (Memᴰ.not_nil (rw e at ((subsets_mem slots (replicate slots false)).1 (length-replicate slots false))))
+      go [] e = absurd (Memᴰ.not-nil (rw e at ((subsets_mem slots (replicate slots false)).1 (length-replicate slots false))))
       go (q ∷ qs) e =
           let b = best q qs in
           (b.0, (subsets_mem slots b.0).0 (rw e b.1), λ r l. b.2 r (rw e at ((subsets_mem slots r).1 l)))
@@ -148,5 +148,5 @@ module _ (slots : ℕ) (f g : Slots → ℕ) where
   in_every_greatest_greatest k = go tops refl
     where
       go : (l : List Slots) → tops ≡ l → Greatest (common slots l)
-      go [] e = let b = some_greatest in absurd (Memᴰ.not_nil (rw e at (in_tops b.0 b.1 b.2)))
+      go [] e = let b = some_greatest in absurd (Memᴰ.not-nil (rw e at (in_tops b.0 b.1 b.2)))
       go (q ∷ qs) e = common_keeps slots Greatest k q qs (λ r i. tops_sized r (rw e i)) (λ r i. tops_greatest r (rw e i))

@@ -9,7 +9,7 @@ use Rattle.common.specs.Tests.{and_true, or_right}
 
 module _ {A B : Type 0} where
   pub in_flat_map : (f : A → List B) {b : B} (l : List A) → Memᴰ b (flat_map f l) → (a : A) × Memᴰ a l × Memᴰ b (f a)
-  in_flat_map f [] m = absurd (Memᴰ.not_nil m)
+  in_flat_map f [] m = absurd (Memᴰ.not-nil m)
   in_flat_map f {b} (x ∷ xs) m = step (in_flat_map f xs) (Memᴰ.append_cases (f x) m)
     where
       step : (Memᴰ b (flat_map f xs) → (a : A) × Memᴰ a xs × Memᴰ b (f a)) → Memᴰ b (f x) ⊎ Memᴰ b (flat_map f xs)
@@ -47,7 +47,7 @@ module _ {A : Type 0} where
 
   -- the members that pass a test
   pub in_keep : (f : A → Bool) {a : A} (l : List A) → Memᴰ a (keep f l) → Memᴰ a l × (f a ≡ true)
-  in_keep f [] m = absurd (Memᴰ.not_nil m)
+  in_keep f [] m = absurd (Memᴰ.not-nil m)
   in_keep f {a} (x ∷ xs) m = go (f x) refl m (in_keep f xs)
     where
       rest : (Memᴰ a (keep f xs) → Memᴰ a xs × (f a ≡ true)) → Memᴰ a (keep f xs) → Memᴰ a (x ∷ xs) × (f a ≡ true)

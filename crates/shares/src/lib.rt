@@ -12,7 +12,7 @@ pub use calls::plan_share;
 // What planning a share answers: the length is that of the listing written, the share a number from 1 to 100; both are
 // 0 on a refusal.
 #[repr(C)]
-#[derive(Drop)]
+#[derive(Clone, Copy)]
 pub struct SharePlanned {
     pub number: u32,
     pub line: u32,

@@ -20,7 +20,7 @@ pub use writer::write_of;
 
 // What `read` and `read_numbers` answer. On a refusal every field after `line` is 0.
 #[repr(C)]
-#[derive(Drop)]
+#[derive(Clone, Copy)]
 pub struct Reading {
     pub number: u32,
     pub line: u32,
@@ -34,7 +34,7 @@ pub struct Reading {
 
 // What `write` answers: the length is that of the sheet written, 0 on a refusal.
 #[repr(C)]
-#[derive(Drop)]
+#[derive(Clone, Copy)]
 pub struct Written {
     pub number: u32,
     pub line: u32,

@@ -1,0 +1,41 @@
+-- `lookup::finder::first_line` meets its contract. No line passed has the tank. Assumes nothing.
+use mathlib.Core.Path.{◌≡◌, refl, sym, ◌∙◌}
+use Prim.Native.Nat.{◌*◌, ◌-◌}
+use Rattle.line.specs.Layout.{line_bytes}
+use Rattle.sheet.specs.LineSteps.{value_place}
+use Rattle.lookup.specs.FindSteps.{first_end, first_hit, first_miss}
+use native.Mathlib.Omega.{arith}
+use Rattle.lookup.proofs.finder.first_line.Goals as goal
+
+pub loop-i-init : goal.loop-i-init
+loop-i-init c = (omega arith, omega arith, omega arith, refl)
+
+pub overflow_mul-i : goal.overflow_mul-i
+overflow_mul-i c = omega arith
+
+pub field_number-requires : goal.field_number-requires
+field_number-requires c = omega arith
+
+pub returns-then-field_number-tank : goal.returns-then-field_number-tank
+returns-then-field_number-tank c = first_hit c.args.b.now c.args.tank c.loop-i.i c.args.lines (omega arith)
+    (sym (c.field_number.ensures ∙ value_place c.args.b.now c.loop-i.i (omega arith) 0 (line_bytes * c.loop-i.i) (omega arith) (omega arith)) ∙ c.if-field_number-tank.true)
+    ∙ sym c.loop-i.invariant.3
+
+pub overflow_add-i : goal.overflow_add-i
+overflow_add-i c = omega arith
+
+pub loop-i-smaller : goal.loop-i-smaller
+loop-i-smaller c = omega arith
+
+pub loop-i-preserved : goal.loop-i-preserved
+loop-i-preserved c = (
+  omega arith,
+  omega arith,
+  omega arith,
+  c.loop-i.invariant.3 ∙ first_miss c.args.b.now c.args.tank c.loop-i.i c.args.lines (omega arith)
+      (λ e. c.if-field_number-tank.false (c.field_number.ensures ∙ value_place c.args.b.now c.loop-i.i (omega arith) 0 (line_bytes * c.loop-i.i) (omega arith) (omega arith) ∙ e)),
+)
+
+pub returns : goal.returns
+returns c = let n : c.args.lines ≡ c.loop-i.i = omega arith in
+    n ∙ first_end c.args.b.now c.args.tank c.loop-i.i c.args.lines (omega arith) ∙ sym c.loop-i.invariant.3
