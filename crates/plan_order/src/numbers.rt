@@ -20,7 +20,7 @@ pub fn order_of_numbers(x: u32, y: u32) -> Order
 
 // Whether the two differ, so that nothing after them decides.
 pub fn differs(order: Order) -> bool
-    ensures { «r» ≡ differs order }
+    ensures { result ≡ differs order }
 {
     match order {
         Order::No => true,
@@ -32,7 +32,7 @@ pub fn differs(order: Order) -> bool
 
 // The number of each answer, as the calls give it.
 pub fn order_number(order: Order) -> u32
-    ensures { «r» ≡ order_number_lem order }
+    ensures { result ≡ order_number_lem order }
 {
     match order {
         Order::No => 0,
