@@ -19,7 +19,7 @@ pub use planning::{plan_day, plan_words};
 pub use settle::keep;
 
 // A day planned, or held for want of blowers.
-#[derive(Drop)]
+#[derive(Clone, Copy)]
 pub struct Day {
     pub held: bool,
     // the count of each slot

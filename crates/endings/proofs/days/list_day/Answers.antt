@@ -1,0 +1,34 @@
+-- `endings::days::list_day` meets its contract. Assumes nothing.
+use mathlib.Core.Path.{refl}
+use Rattle.placing.specs.RationLaws.{rations_longest}
+use Rattle.placing.specs.WordLaws.{windows_of_day, volumes_of_day}
+use Rattle.endings.specs.DayCauseLaws.{day_begin, can_list, day_listed, day_held}
+use Rattle.endings.proofs.days.list_day.Goals as goal
+
+pub mark_windows-requires : goal.mark_windows-requires
+mark_windows-requires c = (rations_longest c.requires.0, refl)
+
+pub volumes_of-volumes-requires : goal.volumes_of-volumes-requires
+volumes_of-volumes-requires c = rations_longest c.requires.0
+
+pub set_highs-requires : goal.set_highs-requires
+set_highs-requires c = (c.requires.0.short, refl)
+
+pub begin-requires : goal.begin-requires
+begin-requires c = let r = c.requires.0 in
+    day_begin c.args.blowers r c.set_highs.ensures (windows_of_day r c.mark_windows.ensures) (volumes_of_day r c.volumes_of-volumes.ensures) refl
+
+pub list_stretches-listed-requires : goal.list_stretches-listed-requires
+list_stretches-listed-requires c = let r = c.requires.0 in
+    can_list c.args.blowers r c.set_highs.ensures (windows_of_day r c.mark_windows.ensures) (volumes_of_day r c.volumes_of-volumes.ensures)
+    c.begin.ensures c.if-begin.true c.requires.1
+
+pub returns-then-begin : goal.returns-then-begin
+returns-then-begin c = let r = c.requires.0 in
+    day_listed c.args.blowers r c.set_highs.ensures (windows_of_day r c.mark_windows.ensures) (volumes_of_day r c.volumes_of-volumes.ensures)
+    c.begin.ensures c.if-begin.true c.list_stretches-listed.ensures
+
+pub returns : goal.returns
+returns c = let r = c.requires.0 in
+    day_held c.args.blowers r c.set_highs.ensures (windows_of_day r c.mark_windows.ensures) (volumes_of_day r c.volumes_of-volumes.ensures)
+    c.begin.ensures c.if-begin.false
