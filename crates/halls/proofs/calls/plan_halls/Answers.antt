@@ -1,0 +1,75 @@
+-- `halls::calls::plan_halls` meets its contract. Assumes nothing.
+use mathlib.Core.Path.{◌≡◌, sym, ap, ◌∙◌}
+use Prim.Native.Nat.{ℕ}
+use Rattle.halls.specs.Halls.{Hall, Buffers, lent, four, nothing, halls_refusal, outcome_of}
+use Rattle.halls.specs.HallLaws.{none_used_lem}
+use Rattle.halls.specs.CallLaws.{halls_in_range, refused_outcome, refused_answer, after_hall, after_hall_if, buffers₁, buffers₂, buffers₃, buffers₄, planned_answer}
+use native.Mathlib.Omega.{arith}
+use Rattle.std.proofs.Common.{rules}
+use Rattle.halls.proofs.calls.plan_halls.Goals as goal
+
+pub returns-then-refusal-ne0 : goal.returns-then-refusal-ne0
+returns-then-refusal-ne0 c = let limit = c.args.limit in
+    let halls = c.args.halls in
+    let e = c.halls_refusal-refusal.ensures in
+    let h : Hall = lent c.args.sheet_1.now c.args.listing_1.now c.args.placing_1.now in
+    let k : Hall = lent c.args.sheet_2.now c.args.listing_2.now c.args.placing_2.now in
+    let m : Hall = lent c.args.sheet_3.now c.args.listing_3.now c.args.placing_3.now in
+    let n : Hall = lent c.args.sheet_4.now c.args.listing_4.now c.args.placing_4.now in
+    let refused : (halls_refusal limit halls).number ≡ 0 → ⊥ = λ z. c.if-refusal-ne0.true (ap (λ r. r.number) e ∙ z) in
+    let left : (i : ℕ) → ◌≡◌ {A = Buffers} _ (outcome_of limit halls (four h k m n) i).buffers = λ i. ap (λ x. x.buffers) (sym (refused_outcome limit halls refused h k m n i)) in let all = (
+      c.refuse_halls.ensures ∙ (λ i. record { number = (e i).number; line = (e i).line; first = nothing; second = nothing; third = nothing; fourth = nothing }) ∙ refused_answer limit halls refused h k m n,
+      (left 0, (left 1, (left 2, left 3))),
+    ) in record { value = all.0; hall_1 = all.1; hall_2 = all.2; hall_3 = all.3; hall_4 = all.4 }
+
+pub overflow_cast-most : goal.overflow_cast-most
+overflow_cast-most c = omega (arith, (halls_in_range c.args.limit c.args.halls (sym (ap (λ r. r.number) c.halls_refusal-refusal.ensures) ∙ c.if-refusal-ne0.false)).1)
+
+pub plan_hall-hall_1-requires : goal.plan_hall-hall_1-requires
+plan_hall-hall_1-requires c = none_used_lem c.args.limit (halls_in_range c.args.limit c.args.halls (sym (ap (λ r. r.number) c.halls_refusal-refusal.ensures) ∙ c.if-refusal-ne0.false)).1
+
+pub plan_hall_if-hall_2-requires : goal.plan_hall_if-hall_2-requires
+plan_hall_if-hall_2-requires c = after_hall (none_used_lem c.args.limit (halls_in_range c.args.limit c.args.halls (sym (ap (λ r. r.number) c.halls_refusal-refusal.ensures) ∙ c.if-refusal-ne0.false)).1) c.plan_hall-hall_1.ensures
+
+pub plan_hall_if-hall_3-requires : goal.plan_hall_if-hall_3-requires
+plan_hall_if-hall_3-requires c = after_hall_if _ (after_hall (none_used_lem c.args.limit (halls_in_range c.args.limit c.args.halls (sym (ap (λ r. r.number) c.halls_refusal-refusal.ensures) ∙ c.if-refusal-ne0.false)).1) c.plan_hall-hall_1.ensures) c.plan_hall_if-hall_2.ensures
+
+pub plan_hall_if-hall_4-requires : goal.plan_hall_if-hall_4-requires
+plan_hall_if-hall_4-requires c = after_hall_if _ (after_hall_if _ (after_hall (none_used_lem c.args.limit (halls_in_range c.args.limit c.args.halls (sym (ap (λ r. r.number) c.halls_refusal-refusal.ensures) ∙ c.if-refusal-ne0.false)).1) c.plan_hall-hall_1.ensures) c.plan_hall_if-hall_2.ensures) c.plan_hall_if-hall_3.ensures
+
+pub shape_of-listing_1 : goal.shape_of-listing_1
+shape_of-listing_1 c = search (rules, c.plan_hall-hall_1.auto, c.plan_hall_if-hall_2.auto, c.plan_hall_if-hall_3.auto, c.plan_hall_if-hall_4.auto)
+
+pub shape_of-placing_1 : goal.shape_of-placing_1
+shape_of-placing_1 c = search (rules, c.plan_hall-hall_1.auto, c.plan_hall_if-hall_2.auto, c.plan_hall_if-hall_3.auto, c.plan_hall_if-hall_4.auto)
+
+pub shape_of-listing_2 : goal.shape_of-listing_2
+shape_of-listing_2 c = search (rules, c.plan_hall-hall_1.auto, c.plan_hall_if-hall_2.auto, c.plan_hall_if-hall_3.auto, c.plan_hall_if-hall_4.auto)
+
+pub shape_of-placing_2 : goal.shape_of-placing_2
+shape_of-placing_2 c = search (rules, c.plan_hall-hall_1.auto, c.plan_hall_if-hall_2.auto, c.plan_hall_if-hall_3.auto, c.plan_hall_if-hall_4.auto)
+
+pub shape_of-listing_3 : goal.shape_of-listing_3
+shape_of-listing_3 c = search (rules, c.plan_hall-hall_1.auto, c.plan_hall_if-hall_2.auto, c.plan_hall_if-hall_3.auto, c.plan_hall_if-hall_4.auto)
+
+pub shape_of-placing_3 : goal.shape_of-placing_3
+shape_of-placing_3 c = search (rules, c.plan_hall-hall_1.auto, c.plan_hall_if-hall_2.auto, c.plan_hall_if-hall_3.auto, c.plan_hall_if-hall_4.auto)
+
+pub shape_of-listing_4 : goal.shape_of-listing_4
+shape_of-listing_4 c = search (rules, c.plan_hall-hall_1.auto, c.plan_hall_if-hall_2.auto, c.plan_hall_if-hall_3.auto, c.plan_hall_if-hall_4.auto)
+
+pub shape_of-placing_4 : goal.shape_of-placing_4
+shape_of-placing_4 c = search (rules, c.plan_hall-hall_1.auto, c.plan_hall_if-hall_2.auto, c.plan_hall_if-hall_3.auto, c.plan_hall_if-hall_4.auto)
+
+pub returns : goal.returns
+returns c = let limit = c.args.limit in
+    let halls = c.args.halls in
+    let e = c.halls_refusal-refusal.ensures in
+    let z = sym (ap (λ r. r.number) e) ∙ c.if-refusal-ne0.false in
+    let d₁ = c.plan_hall-hall_1.ensures in
+    let d₂ = c.plan_hall_if-hall_2.ensures in
+    let d₃ = c.plan_hall_if-hall_3.ensures in
+    let d₄ = c.plan_hall_if-hall_4.ensures in let all = (
+      (λ i. record { number = (e i).number; line = (e i).line; first = c.plan_hall-hall_1.result.planned; second = c.plan_hall_if-hall_2.result.planned; third = c.plan_hall_if-hall_3.result.planned; fourth = c.plan_hall_if-hall_4.result.planned }) ∙ planned_answer limit halls z d₁ d₂ d₃ d₄,
+      (buffers₁ limit halls z d₁ d₂ d₃ d₄, (buffers₂ limit halls z d₁ d₂ d₃ d₄, (buffers₃ limit halls z d₁ d₂ d₃ d₄, buffers₄ limit halls z d₁ d₂ d₃ d₄))),
+    ) in record { value = all.0; hall_1 = all.1; hall_2 = all.2; hall_3 = all.3; hall_4 = all.4 }
