@@ -42,17 +42,18 @@ module _ {slots : ℕ} {ds : List Demand} (w : Windows slots ds) where
     pub length_busy_from : (busy : Bool) (n t : ℕ) (b : Bounds) → length (busy_from slots ds k busy n t b) ≡ n
     unfolding busy_from
     length_busy_from busy zero t b = refl
-    length_busy_from busy (suc n) t b = ap suc (length_busy_from _ n (suc t) _)
+    length_busy_from busy (suc n) t b = ap suc (length_busy_from (busy_at slots ds k busy t b) n (suc t) _)
 
     pub settle_from_tighter : (busy : Bool) (n t : ℕ) (b : Bounds) → Tighter slots b (settle_from slots ds k busy n t b)
     unfolding settle_from
     settle_from_tighter busy zero t b = tighter_refl
-    settle_from_tighter busy (suc n) t b = tighter_trans (keep_at_tighter k (busy_at slots ds k busy t b) t b) (settle_from_tighter _ n (suc t) _)
+    settle_from_tighter busy (suc n) t b = tighter_trans (keep_at_tighter k (busy_at slots ds k busy t b) t b) (settle_from_tighter (busy_at slots ds k busy t b) n (suc t) _)
 
     pub settle_from_possible : (busy : Bool) (n t : ℕ) {b : Bounds} → FeasibleDay slots ds b → t + n ≡ slots → FeasibleDay slots ds (settle_from slots ds k busy n t b)
     unfolding settle_from
     settle_from_possible busy zero t h e = h
-    settle_from_possible busy (suc n) t h e = settle_from_possible _ n (suc t) (busy_at_possible w k busy t h (omega arith)) (omega arith)
+    settle_from_possible busy (suc n) t {b} h e =
+        settle_from_possible (busy_at slots ds k busy t b) n (suc t) (busy_at_possible w k busy t h (omega arith)) (omega arith)
 
     -- each slot is decided as the blower chooses in it
     pub settle_from_decided : (busy : Bool) (n t : ℕ) {b : Bounds} → FeasibleDay slots ds b → t + n ≡ slots → (i : ℕ) → i < n
@@ -65,7 +66,7 @@ module _ {slots : ℕ} {ds : List Demand} (w : Windows slots ds) where
         rw here (decided_tighter k x t (omega arith) (settle_from_tighter x n (suc t) (keep_at k x t b)) (decided_keep_at k x t h.sized (omega arith)))
     settle_from_decided busy (suc n) t {b} h e (suc i) l =
         let later : t + suc i ≡ suc t + i = omega arith in
-        rw later (settle_from_decided _ n (suc t) (busy_at_possible w k busy t h (omega arith)) (omega arith) i (omega arith))
+        rw later (settle_from_decided (busy_at slots ds k busy t b) n (suc t) (busy_at_possible w k busy t h (omega arith)) (omega arith) i (omega arith))
 
   -- All blowers ---------------------------------------------------------------
 

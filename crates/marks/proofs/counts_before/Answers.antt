@@ -1,6 +1,5 @@
 -- `marks::counts_before` meets its contract: after t slots the places 0 to t have their counts. Assumes nothing.
 use mathlib.Core.Path.{◌≡◌}
-use mathlib.Core.Logic.{⊎_elim}
 use Prim.Native.Nat.{suc, ◌+◌, ◌-◌, ◌≤◌}
 use Rattle.checks.specs.Limits.{max_slots}
 use Rattle.common.specs.FillLaws.{filled_next}
@@ -8,6 +7,7 @@ use Rattle.marks.specs.Counts.{marked_to}
 use Rattle.marks.specs.MarkSteps.{count_none, count_hit, count_miss, counts_begin, counts_end}
 use native.Mathlib.Omega.{arith}
 use Rattle.marks.proofs.counts_before.Goals as goal
+use Rattle.marks.proofs.counts_before.Goals.{then-marks-t-eq1, else-marks-t-eq1}
 
 pub loop-t-init : goal.loop-t-init
 loop-t-init c = (omega arith, omega arith, count_none c.args.marks.now, counts_begin c.args.marks.now)
@@ -34,8 +34,11 @@ pub loop-t-preserved : goal.loop-t-preserved
 loop-t-preserved c = let marks = c.args.marks.now in
     let t = c.loop-t.t in
     let e : c.if-marks-t-eq1.n ≡ marked_to marks (t + 1) =
-    ⊎_elim (λ w. omega (arith, w, count_hit marks t (omega arith) w.0.taken)) (λ w. omega (arith, w, count_miss marks t (omega arith) w.0.left)) c.if-marks-t-eq1.branch in
-    let l : c.if-marks-t-eq1.n ≤ t + 1 = ⊎_elim (λ w. omega arith) (λ w. omega arith) c.if-marks-t-eq1.branch in
+    elim c.if-marks-t-eq1.branch [
+        then-marks-t-eq1 w ↦ omega (arith, count_hit marks t (omega arith) w.if-marks-t-eq1.true)
+        | else-marks-t-eq1 w ↦ omega (arith, count_miss marks t (omega arith) w.if-marks-t-eq1.false)
+    ] in
+    let l : c.if-marks-t-eq1.n ≤ t + 1 = elim c.if-marks-t-eq1.branch [ then-marks-t-eq1 w ↦ omega arith | else-marks-t-eq1 w ↦ omega arith ] in
     (omega arith, l, e, filled_next (suc max_slots) (marked_to marks) (t + 1) _ c.loop-t.invariant.3 (omega arith) _ e)
 
 pub returns : goal.returns

@@ -9,11 +9,8 @@ overflow_add-end c = let h = placed_within c.args.b.now c.args.tank _ c.place-p.
 pub slice_bounds-result-count : goal.slice_bounds-result-count
 slice_bounds-result-count c = omega arith
 
-pub UNKNOWN-slice-bounds-result-start : goal.UNKNOWN-slice-bounds-result-start
-UNKNOWN-slice-bounds-result-start c = omega arith
-
-pub UNKNOWN-slice-bounds-result-end : goal.UNKNOWN-slice-bounds-result-end
-UNKNOWN-slice-bounds-result-end c = placed_within c.args.b.now c.args.tank _ c.place-p.ensures.value
+pub slice_bounds-result-end : goal.slice_bounds-result-end
+slice_bounds-result-end c = placed_within c.args.b.now c.args.tank _ c.place-p.ensures.value
 
 pub returns : goal.returns
-returns c = record { result_value = c.place-p.ensures.b_value; ref_ptr_value = placed_begins _ _ _ c.args.b.ptr c.place-p.ensures.value }
+returns c = record { result_value = c.place-p.ensures.b_value; ref_ptr_value = placed_begins _ _ _ c.args.b.ref_ptr c.place-p.ensures.value }

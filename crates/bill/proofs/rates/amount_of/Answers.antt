@@ -1,0 +1,6 @@
+-- `bill::rates::amount_of` meets its contract. Assumes nothing.
+use Rattle.bill.specs.AmountLaws.{amount_of_split}
+use Rattle.bill.proofs.rates.amount_of.Goals as goal
+
+pub returns : goal.returns
+returns c = amount_of_split _

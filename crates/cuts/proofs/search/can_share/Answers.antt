@@ -1,0 +1,13 @@
+-- `cuts::search::can_share` meets its contract. Assumes nothing.
+use Rattle.placing.specs.RationLaws.{rations_longest}
+use Rattle.cuts.proofs.SearchSteps.{cut_rations, can_begin_share, answered, ask_again}
+use Rattle.cuts.proofs.search.can_share.Goals as goal
+
+pub volumes_of-volumes-requires : goal.volumes_of-volumes-requires
+volumes_of-volumes-requires c = rations_longest (cut_rations c.requires.0 c.args.share c.requires.1 c.cut_sheet-cut.ensures)
+
+pub begin_again-can-requires : goal.begin_again-can-requires
+begin_again-can-requires c = can_begin_share c.requires.0 c.args.share c.requires.1 c.cut_sheet-cut.ensures c.volumes_of-volumes.ensures
+
+pub returns : goal.returns
+returns c = record { share_answered = answered c.requires.0 c.args.share c.requires.1 c.cut_sheet-cut.ensures c.volumes_of-volumes.ensures c.begin_again-can.ensures; can_ask_shares = ask_again c.requires.0 c.args.share c.requires.1 c.cut_sheet-cut.ensures c.volumes_of-volumes.ensures c.begin_again-can.ensures }

@@ -1,0 +1,19 @@
+-- `cuts::search::spread_share` meets its contract. Assumes nothing.
+use Rattle.placing.specs.RationLaws.{rations_longest}
+use Rattle.cuts.specs.Cuts.{max_share}
+use Rattle.cuts.specs.SpreadShareLaws.{spread_placing}
+use Rattle.cuts.proofs.SearchSteps.{sheet_rations, few_blowers, share_of}
+use native.Mathlib.Omega.{arith}
+use Rattle.cuts.proofs.search.spread_share.Goals as goal
+
+pub greatest_density-most-requires : goal.greatest_density-most-requires
+greatest_density-most-requires c = rations_longest (sheet_rations c.requires)
+
+pub overflow_mul-room : goal.overflow_mul-room
+overflow_mul-room c = omega (arith, few_blowers c.requires)
+
+pub returns-then-most-room : goal.returns-then-most-room
+returns-then-most-room c = (λ own s h. spread_placing h c.requires.zero c.greatest_density-most.ensures max_share (omega arith) (omega (arith, c.if-most-room.true)), omega arith)
+
+pub returns : goal.returns
+returns c = let e = share_of _ c.greatest_density-most.result c.if-most-room.false in (λ own s h. spread_placing h c.requires.zero c.greatest_density-most.ensures _ e.0 (omega (arith, e.1)), e.0)

@@ -1,0 +1,13 @@
+-- `feedings::feed::feed_bit` meets its contract. Assumes nothing.
+use Rattle.common.specs.Bits.{bit_below}
+use Rattle.feedings.specs.ScheduleWordLaws.{fed_bit_yes, fed_bit_no}
+use Rattle.feedings.proofs.feed.feed_bit.Goals as goal
+
+pub add_bit-requires : goal.add_bit-requires
+add_bit-requires c = (c.requires.feed.ration, bit_below _ _ c.requires.new)
+
+pub returns-then-feed : goal.returns-then-feed
+returns-then-feed c = fed_bit_yes c.feed.ensures _ c.requires.new c.if-feed.true c.add_bit.ensures
+
+pub returns : goal.returns
+returns c = fed_bit_no c.feed.ensures _ c.requires.new c.if-feed.false
