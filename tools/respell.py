@@ -21,10 +21,11 @@ NAME = re.compile(WORD)
 DECLARED = re.compile(
     r"^\s*(?:(?:abbrev|unfoldable|pub)\s+)*([a-z][^\s(){}.;,@\"«»:]*)\s*(?:[({].*[)}]\s*)*:\s", re.M
 )
-USE = re.compile(r"^\s*(?:ghost )?use (\S+?)\.?(?:\{([^}]*)\})?;?$", re.M)
+USE = re.compile(r"^\s*use (\S+?)\.?(?:\{([^}]*)\})?(?: as \S+)?$", re.M)
+GHOST_USE = re.compile(r"^\s*ghost use (\S+?)\.?(?:\{([^}]*)\})?;$", re.M)
 # Names that are bound in a proof alone, and so are declared nowhere.
 BOUND = (
-    "not-nil planBuffer placingBuffer no-held in-S never-fall same-free same-volumes same-loads soFar other-rest "
+    "planBuffer placingBuffer no-held in-S never-fall same-free same-volumes same-loads soFar other-rest "
     "other-rest' as-great read-rations a-fits b-fits c-fits"
 ).split()
 
@@ -119,7 +120,7 @@ def names(declared, met):
 
 def from_libraries(text, own):
     got = set()
-    for path, items in USE.findall(text):
+    for path, items in USE.findall(text) + GHOST_USE.findall(text):
         crate = re.match(r"Rattle\.(\w+)\.", path + ".")
         if not (crate and crate[1] in own):
             got |= set(re.findall(r"[^\s{},]+", items))

@@ -23,7 +23,7 @@ use Rattle.stretches.specs.declared.Day.{Day}
 use Rattle.plan_lines.specs.Inputs.{tank_at}
 use Rattle.plan_lines.specs.SetBits.{set_bits_past}
 use Rattle.plan_order.specs.declared.Order.TheVariants.{No}
-use Rattle.plan_order.specs.Order.{order_number_lem, order_of_numbers_lem, then_by, order_of_slots, tanks_in, fed_tanks, order_of_plans}
+use Rattle.plan_order.specs.Order.{order_number, order_of_numbers, then_by, order_of_slots, tanks_in, fed_tanks, order_of_plans}
 use Rattle.plan_order.specs.Clauses.{tanks_of_word, tanks_of_words, CanOrder}
 use Rattle.plan_order.specs.WordLaws.{tanks_in_word}
 use Rattle.planning.specs.Problem.{Problem, alone, can_be_planned, feedings_of, plan_with, plan_for}
@@ -80,10 +80,10 @@ days_can h k =
     }
 
 pub days_order : {p q : Problem} {r r' : Reading} {d d' : Day} → DayOf p r d → DayOf q r' d' → d.held ≡ false → d'.held ≡ false
-    → then_by (order_of_numbers_lem r.slots r'.slots) (order_of_slots (tanks_of_words r.slots r.numbers d.fed) (tanks_of_words r'.slots r'.numbers d'.fed))
+    → then_by (order_of_numbers r.slots r'.slots) (order_of_slots (tanks_of_words r.slots r.numbers d.fed) (tanks_of_words r'.slots r'.numbers d'.fed))
     ≡ order_of_plans (plan_for p) (plan_for q)
 unfolding order_of_plans
-days_order h k e f = ap₂ then_by (ap₂ order_of_numbers_lem (slots_of_lem h) (slots_of_lem k)) (ap₂ order_of_slots (day_tanks h e) (day_tanks k f))
+days_order h k e f = ap₂ then_by (ap₂ order_of_numbers (slots_of_lem h) (slots_of_lem k)) (ap₂ order_of_slots (day_tanks h e) (day_tanks k f))
 
 -- ---- the answer
 
@@ -106,7 +106,7 @@ module _ (a b : List ℕ) where
   abbrev q : Problem
   q = alone (sheet_of b)
 
-  refused : (f : Refusal) → compare_refusal a b ≡ f → (f.number ≡ 0 → ⊥) → record { number = f.number; line = f.line; order = order_number_lem No } ≡ compared_of a b
+  refused : (f : Refusal) → compare_refusal a b ≡ f → (f.number ≡ 0 → ⊥) → record { number = f.number; line = f.line; order = order_number No } ≡ compared_of a b
   unfolding compared_of order_of
   refused f e n = rw (e, ne_eqb f.number 0 n)
 
@@ -115,7 +115,7 @@ module _ (a b : List ℕ) where
     unfolding compare_refusal
     by_first n = refused_before (bytes_read a e) n (held_faults p ++ (faults b ++ held_faults q))
 
-    pub compare_first : (r.number ≡ 0 → ⊥) → record { number = r.number; line = r.line; order = order_number_lem No } ≡ compared_of a b
+    pub compare_first : (r.number ≡ 0 → ⊥) → record { number = r.number; line = r.line; order = order_number No } ≡ compared_of a b
     compare_first n = refused (record { number = r.number; line = r.line }) (by_first n) n
 
     module _ (z : r.number ≡ 0) {d : Day} (h : DayOf p r d) where
@@ -123,7 +123,7 @@ module _ (a b : List ℕ) where
       unfolding compare_refusal
       after_first = accepted_before (bytes_read a e) z (held_faults p ++ (faults b ++ held_faults q))
 
-      pub compare_first_held : d.held ≡ true → record { number = no_placing; line = 0; order = order_number_lem No } ≡ compared_of a b
+      pub compare_first_held : d.held ≡ true → record { number = no_placing; line = 0; order = order_number No } ≡ compared_of a b
       compare_first_held y =
           refused (record { number = no_placing; line = 0 }) (after_first ∙ held_first p d.held h.held y (faults b ++ held_faults q)) (λ x. omega (arith, x))
 
@@ -131,7 +131,7 @@ module _ (a b : List ℕ) where
         after_held : compare_refusal a b ≡ first_refusal (faults b ++ held_faults q)
         after_held = after_first ∙ planned_none p d.held h.held y (faults b ++ held_faults q)
 
-        pub compare_second : (r'.number ≡ 0 → ⊥) → record { number = r'.number; line = r'.line; order = order_number_lem No } ≡ compared_of a b
+        pub compare_second : (r'.number ≡ 0 → ⊥) → record { number = r'.number; line = r'.line; order = order_number No } ≡ compared_of a b
         compare_second n =
             refused (record { number = r'.number; line = r'.line }) (after_held ∙ refused_before (bytes_read b e') n (held_faults q)) n
 
@@ -139,10 +139,10 @@ module _ (a b : List ℕ) where
           after_second : compare_refusal a b ≡ first_refusal (held_faults q ++ [])
           after_second = after_held ∙ accepted_before (bytes_read b e') z' (held_faults q) ∙ sym (nothing_more (held_faults q))
 
-          pub compare_second_held : d'.held ≡ true → record { number = no_placing; line = 0; order = order_number_lem No } ≡ compared_of a b
+          pub compare_second_held : d'.held ≡ true → record { number = no_placing; line = 0; order = order_number No } ≡ compared_of a b
           compare_second_held w =
               refused (record { number = no_placing; line = 0 }) (after_second ∙ held_first q d'.held h'.held w []) (λ x. omega (arith, x))
 
-          pub compare_days : d'.held ≡ false → {n : ℕ} → n ≡ order_number_lem (order_of_plans (plan_for p) (plan_for q)) → record { number = 0; line = 0; order = n } ≡ compared_of a b
+          pub compare_days : d'.held ≡ false → {n : ℕ} → n ≡ order_number (order_of_plans (plan_for p) (plan_for q)) → record { number = 0; line = 0; order = n } ≡ compared_of a b
           unfolding compared_of order_of first_refusal
           compare_days w {n} s = rw (after_second ∙ planned_none q d'.held h'.held w []) (λ i. record { number = 0; line = 0; order = s i })

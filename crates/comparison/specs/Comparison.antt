@@ -6,7 +6,7 @@ use Rattle.checks.specs.Checks.{first_refusal, faults}
 use Rattle.checks.specs.CallChecks.{comparison_checks}
 use Rattle.plan_order.specs.declared.Order.{Order}
 use Rattle.plan_order.specs.declared.Order.TheVariants.{No}
-use Rattle.plan_order.specs.Order.{order_number_lem, order_of_plans}
+use Rattle.plan_order.specs.Order.{order_number, order_of_plans}
 use Rattle.planning.specs.Problem.{alone, can_be_planned, plan_for}
 use Rattle.comparison.specs.declared.Compared.{Compared}
 
@@ -25,4 +25,4 @@ order_of a b =
 unfoldable pub compared_of : List ℕ → List ℕ → Compared
 compared_of a b =
     let r : Refusal = compare_refusal a b in
-    record { number = r.number; line = r.line; order = order_number_lem (order_of a b) }
+    record { number = r.number; line = r.line; order = order_number (order_of a b) }

@@ -3,7 +3,7 @@ use Rattle.std.specs.Prelude.{List, map, ℕ, suc}
 use Rattle.common.specs.Lists.{range}
 use Rattle.plan_lines.specs.Lines.{Line}
 use Rattle.plan_order.specs.declared.Order.{Order}
-use Rattle.plan_order.specs.Order.{order_of_numbers_lem, then_by, order_of_slots}
+use Rattle.plan_order.specs.Order.{order_of_numbers, then_by, order_of_slots}
 use Rattle.planning.specs.ReadListing.{feed_part, in_slot}
 
 -- slot and tank of a feed line
@@ -20,4 +20,4 @@ tanks_listed slots ls = map (λ t. map (λ l. l.c) (in_slot (suc t) (feed_part l
 
 -- smaller D first, then at the first slot that differs the smaller list
 unfoldable pub order_of_listings : (slots : ℕ) → List Line → (slots' : ℕ) → List Line → Order
-order_of_listings slots ls slots' ls' = then_by (order_of_numbers_lem slots slots') (order_of_slots (tanks_listed slots ls) (tanks_listed slots' ls'))
+order_of_listings slots ls slots' ls' = then_by (order_of_numbers slots slots') (order_of_slots (tanks_listed slots ls) (tanks_listed slots' ls'))

@@ -10,7 +10,7 @@ use Rattle.std.proofs.lemmas.List.{length-map}
 use Rattle.std.proofs.Math.Seq.{ext_get_or}
 use Rattle.plan_lines.specs.Lines.{fed_in, feed_lines}
 use Rattle.plan_order.specs.declared.Order.TheVariants.{Same}
-use Rattle.plan_order.specs.Order.{order_of_numbers_lem, then_by, order_of_slots, tanks_in, fed_tanks, order_of_plans}
+use Rattle.plan_order.specs.Order.{order_of_numbers, then_by, order_of_slots, tanks_in, fed_tanks, order_of_plans}
 use Rattle.plan_order.specs.Theorems.{same_plans}
 use Rattle.planning.specs.Problem.{Problem, ProblemInRange, can_be_planned, feedings_of, counts_of, plan_with, plan_for, listing_of}
 use Rattle.planning.specs.ReadListing.{lines_of, tanks, feed_part, in_slot}
@@ -49,7 +49,7 @@ module _ (p q : Problem) (g : ProblemInRange p) (h : ProblemInRange q) (can : ca
   -- The order of two plans is that of their listings.
   pub order_of_listings_lem : order_of_plans (plan_for p) (plan_for q) ≡ order_of_listings p.sheet.slots (lines_of (listing_of p)) q.sheet.slots (lines_of (listing_of q))
   unfolding order_of_plans order_of_listings plan_with
-  order_of_listings_lem = ap (then_by (order_of_numbers_lem p.sheet.slots q.sheet.slots)) (sym (ap₂ order_of_slots (tanks_of_listing p g can) (tanks_of_listing q h can')))
+  order_of_listings_lem = ap (then_by (order_of_numbers p.sheet.slots q.sheet.slots)) (sym (ap₂ order_of_slots (tanks_of_listing p g can) (tanks_of_listing q h can')))
 
   -- They are the same exactly where D agrees, and the slots and tanks of the feed lines.
   pub same_on_listings : (order_of_plans (plan_for p) (plan_for q) ≡ Same)

@@ -1,7 +1,7 @@
 // The comparison of two sheets' plans.
 ghost use Rattle.std.specs.Prelude.{◌≡◌};
 ghost use Rattle.plan_order.specs.declared.Order.TheVariants.{No};
-ghost use Rattle.plan_order.specs.Order.{order_number_lem};
+ghost use Rattle.plan_order.specs.Order.{order_number};
 ghost use Rattle.comparison.specs.Comparison.{compared_of};
 
 use crate::Compared;
@@ -11,7 +11,7 @@ use planning::day_of;
 
 // A refusal's answer: no.
 fn refuse_comparison(number: u32, line: u32) -> Compared
-    ensures { result ≡ record { number = number; line = line; order = order_number_lem No } }
+    ensures { result ≡ record { number = number; line = line; order = order_number No } }
 {
     Compared {
         number,

@@ -29,7 +29,7 @@ use Rattle.schedules.specs.DemandLaws.{windows_demands_of}
 use Rattle.schedules.specs.Theorems.{feasible_iff_sound}
 use Rattle.questions.specs.Calls.{sheet_shortfall, bounds_fault, cut_highs, sheet_feasible}
 use Rattle.questions.specs.BoundsSteps.{length_cut_highs}
-use Rattle.plan_lines.specs.Sizes.{plan_bytes, placing_words_lem}
+use Rattle.plan_lines.specs.Sizes.{plan_bytes, placing_words}
 use Rattle.plan_lines.specs.PlacingForms.{words_of, grid_bytes, grid_of, SameFeedings}
 use Rattle.plan_lines.specs.PlacingFormLaws.{length_words_of, no_words, same_feedings, no_feedings_lem}
 use Rattle.planning.specs.Problem.{Problem, alone, ProblemInRange, can_be_planned, feedings_of, plan_listing, held_listing, listing_of, words_for}
@@ -118,25 +118,25 @@ module _ {own : List Refusal} {s : Sheet} (checks : OwnChecks own s) (p : Proble
               listed (held_listing p) (writes_held r.number e) t (omega (arith, ap length t, length_listing p (range z.0), room z.1));
         }
 
-    marked : (words : List ℕ) → writes r.number ≡ true → words_for p ≡ words → length words ≡ placing_words_lem → placing_words_lem ≤ length old
-        → Front words old (placing_after r (words_for p) old) × (take placing_words_lem (placing_after r (words_for p) old) ≡ words)
+    marked : (words : List ℕ) → writes r.number ≡ true → words_for p ≡ words → length words ≡ placing_words → placing_words ≤ length old
+        → Front words old (placing_after r (words_for p) old) × (take placing_words (placing_after r (words_for p) old) ≡ words)
     unfolding placing_after
     marked words w e n l =
         let f = front_over words old (omega (arith, n)) in
         (rw (w, e) f, ap (λ k. take k (placing_after r (words_for p) old)) (sym n) ∙ rw (w, e) f.text_is)
 
     -- the words of the feedings, where number 0 is given
-    planned_words : r.number ≡ 0 → placing_words_lem ≤ length old
-        → Front (words_of (feedings_of p)) old (placing_after r (words_for p) old) × (take placing_words_lem (placing_after r (words_for p) old) ≡ words_of (feedings_of p))
+    planned_words : r.number ≡ 0 → placing_words ≤ length old
+        → Front (words_of (feedings_of p)) old (placing_after r (words_for p) old) × (take placing_words (placing_after r (words_for p) old) ≡ words_of (feedings_of p))
     planned_words e = marked (words_of (feedings_of p)) (writes_planned r.number e) (words_plan p (number_zero e).2) (length_words_of (feedings_of p))
 
     -- and where 12 is
-    held_words : r.number ≡ no_placing → placing_words_lem ≤ length old
-        → Front (replicate placing_words_lem 0) old (placing_after r (words_for p) old) × (take placing_words_lem (placing_after r (words_for p) old) ≡ replicate placing_words_lem 0)
+    held_words : r.number ≡ no_placing → placing_words ≤ length old
+        → Front (replicate placing_words 0) old (placing_after r (words_for p) old) × (take placing_words (placing_after r (words_for p) old) ≡ replicate placing_words 0)
     held_words e =
-        marked (replicate placing_words_lem 0) (writes_held r.number e) (words_held p (number_twelve e).2 ∙ sym no_words) (length-replicate {A = ℕ} placing_words_lem 0)
+        marked (replicate placing_words 0) (writes_held r.number e) (words_held p (number_twelve e).2 ∙ sym no_words) (length-replicate {A = ℕ} placing_words 0)
 
-    pub placing_buffer_lem : (short ≡ false → placing_words_lem ≤ length old) → PlacingBuffer p r.number old (placing_after r (words_for p) old)
+    pub placing_buffer_lem : (short ≡ false → placing_words ≤ length old) → PlacingBuffer p r.number old (placing_after r (words_for p) old)
     placing_buffer_lem room =
         record {
           refused = λ h. sym (placed_nothing r (silent h) (words_for p) old);

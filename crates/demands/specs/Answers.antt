@@ -13,7 +13,7 @@ use Rattle.schedules.specs.Shortfall.{shortfall}
 use Rattle.schedules.specs.Demands.{demands_of, full_high}
 use Rattle.marks.specs.Marks.{marked}
 use Rattle.questions.specs.Calls.{cut_highs}
-use Rattle.plan_lines.specs.Sizes.{placing_words_lem, causes_bytes}
+use Rattle.plan_lines.specs.Sizes.{placing_words, causes_bytes}
 use Rattle.plan_lines.specs.PlacingForms.{words_of, grid_bytes, grid_of, SameFeedings}
 use Rattle.plan_lines.specs.Text.{refusal_text}
 use Rattle.planning.specs.Problem.{Problem, feedings_of, plan_listing, held_listing}
@@ -86,13 +86,13 @@ pub record PlanBuffer (p : Problem) (number size : ℕ) (old new : List ℕ) : T
 pub record PlacingBuffer (p : Problem) (number : ℕ) (old new : List ℕ) : Type 0 where
   pub refused : RefusedNotHeld number → new ≡ old
   -- 96 words, which mark the feedings: slot t in word t − 1, ration i in bit i − 1 ..
-  pub planned : number ≡ 0 → (length (words_of (feedings_of p)) ≡ placing_words_lem) × Front (words_of (feedings_of p)) old new
+  pub planned : number ≡ 0 → (length (words_of (feedings_of p)) ≡ placing_words) × Front (words_of (feedings_of p)) old new
   -- .. and are all 0 where nothing is planned
-  pub held : number ≡ no_placing → Front (replicate placing_words_lem 0) old new
+  pub held : number ≡ no_placing → Front (replicate placing_words 0) old new
   -- the byte grid of the same feedings, 6,144 zeros where nothing is planned, marks the same: each byte is its bit, and
   -- each form can be made of the other
-  pub as_grid : number ≡ 0 → SameFeedings (take placing_words_lem new) (grid_of (feedings_of p))
-  pub held_as_grid : number ≡ no_placing → SameFeedings (take placing_words_lem new) (replicate grid_bytes 0)
+  pub as_grid : number ≡ 0 → SameFeedings (take placing_words new) (grid_of (feedings_of p))
+  pub held_as_grid : number ≡ no_placing → SameFeedings (take placing_words new) (replicate grid_bytes 0)
 
 -- A text that lists the causes of problem p's stretches; `cut` says whether it was cut.
 pub record CausesListed (p : Problem) (cut : Bool) (text : List ℕ) : Type 0 where

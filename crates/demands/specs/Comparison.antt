@@ -5,7 +5,7 @@ use Rattle.checks.specs.Sheet.{sheet_of}
 use Rattle.checks.specs.Checks.{faults}
 use Rattle.plan_lines.specs.Lines.{Line}
 use Rattle.plan_order.specs.declared.Order.{Order}
-use Rattle.plan_order.specs.Order.{order_number_lem}
+use Rattle.plan_order.specs.Order.{order_number}
 use Rattle.planning.specs.Problem.{alone, listing_of}
 use Rattle.planning.specs.Planning.{plan_refusal, short_plan, listed_answer, listing_after}
 use Rattle.planning.specs.ReadListing.{written, lines_of}
@@ -20,7 +20,7 @@ pub record PlannedSheet : Type 0 where
 
 -- the comparison of two of them gives this answer
 abbrev pub Answered : Order → PlannedSheet → PlannedSheet → Type 0
-Answered x a b = (compared_of a.bytes b.bytes).order ≡ order_number_lem x
+Answered x a b = (compared_of a.bytes b.bytes).order ≡ order_number x
 
 -- the lines that `plan` writes for a sheet's bytes into a plan buffer
 abbrev pub lines_planned : (b listing : List ℕ) → List Line

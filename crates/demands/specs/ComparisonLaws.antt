@@ -18,7 +18,7 @@ use Rattle.planning.specs.ProblemLaws.{planned_may, may_planned, counts_whole}
 use Rattle.planning.specs.CallAnswers.{room_plan}
 use Rattle.plan_order.specs.declared.Order.{Order}
 use Rattle.plan_order.specs.declared.Order.TheVariants.{No, Same, Before, After}
-use Rattle.plan_order.specs.Order.{order_number_lem, order_of_plans}
+use Rattle.plan_order.specs.Order.{order_number, order_of_plans}
 use Rattle.plan_order.specs.TotalOrder.{TotalOrder}
 use Rattle.plan_order.specs.OrderLaws.{day_of, days_ordered, total, total_as, number_tells}
 use Rattle.comparison.specs.Comparison.{compare_refusal, order_of, compared_of}
@@ -99,7 +99,7 @@ comparison_held_iff a b = go (reading_of a).number (can_be_planned p) (reading_o
         none f (inr h) = planned_not_none q (bytes_in_range b h.1) n h.2
 
 -- no on every refusal
-pub no_order : (a b : List ℕ) → NotZero (compared_of a b).number → (compared_of a b).order ≡ order_number_lem No
+pub no_order : (a b : List ℕ) → NotZero (compared_of a b).number → (compared_of a b).order ≡ order_number No
 unfolding compared_of order_of
 no_order a b h = rw (ne_eqb (compare_refusal a b).number 0 h)
 
@@ -122,13 +122,13 @@ pub comparison_number : (a b : PlannedSheet) → (compared_of a.bytes b.bytes).n
 unfolding compared_of
 comparison_number a b = ap (λ r. r.number) (both_planned a b)
 
-order_is : (a b : PlannedSheet) → (compared_of a.bytes b.bytes).order ≡ order_number_lem (order_of_plans (plan_for (problem a)) (plan_for (problem b)))
+order_is : (a b : PlannedSheet) → (compared_of a.bytes b.bytes).order ≡ order_number (order_of_plans (plan_for (problem a)) (plan_for (problem b)))
 unfolding compared_of order_of
 order_is a b = rw (both_planned a b)
 
 -- an answer by its number, and as a word
 answered : (x : Order) (a b : PlannedSheet) → (order_of_plans (plan_for (problem a)) (plan_for (problem b)) ≡ x) ↔ Answered x a b
-answered x a b = (λ e. order_is a b ∙ ap order_number_lem e, λ e. number_tells _ x (sym (order_is a b) ∙ e))
+answered x a b = (λ e. order_is a b ∙ ap order_number e, λ e. number_tells _ x (sym (order_is a b) ∙ e))
 
 lines_listed_lem : (a : PlannedSheet) (listing : List ℕ) → plan_bytes ≤ length listing → lines_planned a.bytes listing ≡ lines_of (listing_of (problem a))
 unfolding plan_refusal
@@ -136,8 +136,8 @@ lines_listed_lem a listing l = ap lines_of (written_listing a.formed (problem a)
 
 pub comparison_listed : (a b : PlannedSheet) (listing other : List ℕ) → plan_bytes ≤ length listing → plan_bytes ≤ length other →
     let s = sheet_of a.bytes in let t = sheet_of b.bytes in let ls = lines_planned a.bytes listing in let ks = lines_planned b.bytes other in
-    ((compared_of a.bytes b.bytes).order ≡ order_number_lem (order_of_listings s.slots ls t.slots ks))
-    × (((compared_of a.bytes b.bytes).order ≡ order_number_lem Same) ↔ ((s.slots ≡ t.slots) × (slots_and_tanks ls ≡ slots_and_tanks ks)))
+    ((compared_of a.bytes b.bytes).order ≡ order_number (order_of_listings s.slots ls t.slots ks))
+    × (((compared_of a.bytes b.bytes).order ≡ order_number Same) ↔ ((s.slots ≡ t.slots) × (slots_and_tanks ls ≡ slots_and_tanks ks)))
 comparison_listed a b listing other l k =
     let p = problem a in
     let q = problem b in
@@ -145,8 +145,8 @@ comparison_listed a b listing other l k =
     let y = lines_listed_lem b other k in
     let e = answered Same a b in
     let f = same_on_listings p q (in_range a) (in_range b) (can a) (can b) in (
-      order_is a b ∙ ap order_number_lem (order_of_listings_lem p q (in_range a) (in_range b) (can a) (can b))
-          ∙ ap₂ (λ ls ks. order_number_lem (order_of_listings p.sheet.slots ls q.sheet.slots ks)) (sym x) (sym y),
+      order_is a b ∙ ap order_number (order_of_listings_lem p q (in_range a) (in_range b) (can a) (can b))
+          ∙ ap₂ (λ ls ks. order_number (order_of_listings p.sheet.slots ls q.sheet.slots ks)) (sym x) (sym y),
       (
         λ z. let h = f.0 (e.1 z) in (h.0, ap slots_and_tanks x ∙ h.1 ∙ sym (ap slots_and_tanks y)),
         λ h. e.0 (f.1 (h.0, sym (ap slots_and_tanks x) ∙ h.1 ∙ ap slots_and_tanks y)),

@@ -9,7 +9,7 @@ use Rattle.checks.specs.Sheet.{sheet_of}
 use Rattle.lookup.specs.LookUp.{tank_lines, look_up}
 use Rattle.questions.specs.Text.{text}
 use Rattle.questions.specs.Calls.{shortfall_of, bounds_of}
-use Rattle.plan_lines.specs.Sizes.{plan_bytes, placing_words_lem}
+use Rattle.plan_lines.specs.Sizes.{plan_bytes, placing_words}
 use Rattle.plan_lines.specs.Lines.{Line, line}
 use Rattle.planning.specs.Problem.{alone, counts_of, listing_of, words_for}
 use Rattle.planning.specs.Planning.{short_plan, short_placing, listing_after, placing_after}
@@ -80,7 +80,7 @@ output_lines s = lines_of (output (text s))
 
 -- halls with buffers that are long enough, and what is answered for them
 abbrev halls_of : List Sheet → List Hall
-halls_of sheets = map (λ s. lent (text s) (replicate plan_bytes 0) (replicate placing_words_lem 0)) sheets
+halls_of sheets = map (λ s. lent (text s) (replicate plan_bytes 0) (replicate placing_words 0)) sheets
 
 abbrev halls_answered : (limit : ℕ) → List Sheet → HallsPlanned
 halls_answered limit sheets = halls_answer limit (length sheets) (halls_of sheets)
@@ -90,7 +90,7 @@ hall_listing limit sheets i = (outcome_of limit (length sheets) (halls_of sheets
 
 -- what the call that cuts rations is refused by, lent buffers that are long enough
 abbrev share_refused : Sheet → Refusal
-share_refused s = share_refusal (text s) (short_plan (replicate plan_bytes 0) || short_placing (replicate placing_words_lem 0))
+share_refused s = share_refusal (text s) (short_plan (replicate plan_bytes 0) || short_placing (replicate placing_words 0))
 
 -- what the definitions answer
 abbrev pub answer : Question → Answer
@@ -122,7 +122,7 @@ answer (share_text_for s) =
     let r = share_refused s in
     let a = share_answer r (sheet_of (text s)) in
     bytes (take a.length (listing_after r (listing_of (share_problem (sheet_of (text s)))) (replicate plan_bytes 0)))
-answer (share_placing_for s) = numbers (placing_after (share_refused s) (words_for (share_problem (sheet_of (text s)))) (replicate placing_words_lem 0))
+answer (share_placing_for s) = numbers (placing_after (share_refused s) (words_for (share_problem (sheet_of (text s)))) (replicate placing_words 0))
 
 -- A row: the question, and the answer that the papers state or that follows from them.
 pub record Day : Type 0 where

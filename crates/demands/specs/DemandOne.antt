@@ -35,7 +35,7 @@ use Rattle.planning.specs.Problem.{alone, can_be_planned, shown_set, held_listin
 use Rattle.planning.specs.Planning.{held_faults, plan_checks, plan_refusal, short_plan, short_placing, listed_answer, unlisted_answer, listing_after, placing_after, plan_refusal_for}
 use Rattle.planning.specs.AloneLaws.{held_alone}
 use Rattle.plan_order.specs.declared.Order.TheVariants.{No}
-use Rattle.plan_order.specs.Order.{order_number_lem}
+use Rattle.plan_order.specs.Order.{order_number}
 use Rattle.comparison.specs.Comparison.{compare_refusal, compared_of}
 use Rattle.causes.specs.CauseCalls.{endings_of, short_causes, causes_answer, causes_after}
 use Rattle.halls.specs.Halls.{Hall, four, halls_faults, nothing, outcome_of, halls_answer}
@@ -108,7 +108,7 @@ pub record DemandOne : Type 0 where
   -- the first sheet is checked to the end, 12 too, before the second; the answer is no where one of them is refused
   pub compare : (a b : List ℕ) → let r = compared_of a b in
       FirstOf (comparison_checks (faults a) (not (can_be_planned (alone (sheet_of a)))) (faults b) (not (can_be_planned (alone (sheet_of b))))) r.number r.line
-      × (NotZero r.number → r.order ≡ order_number_lem No)
+      × (NotZero r.number → r.order ≡ order_number No)
   -- Short rations: 10 after the checks of the sheet; 12 is not among them, and on any refusal the share is 0 ----------
 
   -- what is planned is the sheet cut to the share answered, as `cut_is` says; `plan_share` of demand 3 says that it is

@@ -17,7 +17,7 @@ use Rattle.checks.specs.Checks.{faults}
 use Rattle.sheet.specs.Calls.{written_of, buffer_after}
 use Rattle.theory.specs.Sums.{sum}
 use Rattle.practice.specs.Practice.{practice_sheet, practice_refusal, seed_input}
-use Rattle.plan_lines.specs.Sizes.{plan_bytes, placing_words_lem, causes_bytes}
+use Rattle.plan_lines.specs.Sizes.{plan_bytes, placing_words, causes_bytes}
 use Rattle.planning.specs.Problem.{alone, MayPlace, listing_of, words_for}
 use Rattle.planning.specs.Planning.{plan_refusal_for, plan_refusal, short_plan, short_placing, listed_answer, unlisted_answer, listing_after, placing_after}
 use Rattle.planning.specs.ReadListing.{written, lines_of, head_line, stretch_part}
@@ -53,12 +53,12 @@ pub record DemandThree : Type 0 where
       let r = plan_refusal b (short_plan listing) in let a = listed_answer r (listing_of p) in
       Outcome p a.number (written a (listing_after r (listing_of p) listing))
   -- the feedings marked in the placing buffer are those on the lines
-  pub plan_both : (b listing placing : List ℕ) → let s = sheet_of b in let p = alone s in faults b ≡ [] → plan_bytes ≤ length listing → placing_words_lem ≤ length placing →
+  pub plan_both : (b listing placing : List ℕ) → let s = sheet_of b in let p = alone s in faults b ≡ [] → plan_bytes ≤ length listing → placing_words ≤ length placing →
       let r = plan_refusal b (short_plan listing || short_placing placing) in let a = listed_answer r (listing_of p) in
       Outcome p a.number (written a (listing_after r (listing_of p) listing))
       × (a.number ≡ 0 → SamePlacing s (written a (listing_after r (listing_of p) listing)) (placing_after r (words_for p) placing))
   -- a call that is lent a placing buffer alone marks a sound placing, that which `plan` lists for the same sheet
-  pub plan_placing : (b placing : List ℕ) → let s = sheet_of b in let p = alone s in faults b ≡ [] → placing_words_lem ≤ length placing →
+  pub plan_placing : (b placing : List ℕ) → let s = sheet_of b in let p = alone s in faults b ≡ [] → placing_words ≤ length placing →
       let r = plan_refusal b (short_placing placing) in let a = unlisted_answer r in
       PlannedOrHeld p a.number
       × (a.number ≡ 0 → MayPlace p (placing_in s (placing_after r (words_for p) placing)))
@@ -89,7 +89,7 @@ pub record DemandThree : Type 0 where
   -- sum of high that it prints is over these
   pub plan_halls : (limit halls : ℕ) (a b c d : Hall) → let hs = four a b c d in let r = halls_answer limit halls hs in
       r.number ≡ 0 → (i : ℕ) → i < halls → let h = hall_in hs i in let p = problem_in limit hs i in let x = answer_in r i in let o = (outcome_of limit halls hs i).buffers in
-      faults h.bytes ≡ [] → plan_bytes ≤ length h.buffers.listing → placing_words_lem ≤ length h.buffers.placing →
+      faults h.bytes ≡ [] → plan_bytes ≤ length h.buffers.listing → placing_words ≤ length h.buffers.placing →
       Outcome p x.number (written x o.listing) × (x.number ≡ 0 → SamePlacing (sheet_of h.bytes) (written x o.listing) o.placing)
   pub hall_is : (limit : ℕ) (used : List ℕ) (h : Hall) → HallIs limit used h
   -- what the halls before one use in a slot is what their listings show there: nothing past a hall's own last slot, and
@@ -101,7 +101,7 @@ pub record DemandThree : Type 0 where
   -- Short rations ---------------------------------------------------------------------------------
 
   -- the plan is of the sheet cut to the share answered, and this is the greatest that has a sound placing
-  pub plan_share : (b listing placing : List ℕ) → faults b ≡ [] → plan_bytes ≤ length listing → placing_words_lem ≤ length placing →
+  pub plan_share : (b listing placing : List ℕ) → faults b ≡ [] → plan_bytes ≤ length listing → placing_words ≤ length placing →
       let r = share_refusal b (short_plan listing || short_placing placing) in let p = share_problem (sheet_of b) in let a = share_answer r (sheet_of b) in
       Outcome (problem_at b a) a.number (written_share a (listing_after r (listing_of p) listing))
       × SamePlacing (cut_sheet a.share (sheet_of b)) (written_share a (listing_after r (listing_of p) listing)) (placing_after r (words_for p) placing)
@@ -113,7 +113,7 @@ pub record DemandThree : Type 0 where
       record_faults s ≡ [] → plan_bytes ≤ length listing → let r = plan_refusal_for (record_faults s) s (short_plan listing) in let a = listed_answer r (listing_of p) in
       Outcome p a.number (written a (listing_after r (listing_of p) listing))
   pub plan_rations_both : (slots blowers wake : ℕ) (rations : List Ration) (listing placing : List ℕ) → let s = record_sheet slots blowers wake rations in let p = alone s in
-      record_faults s ≡ [] → plan_bytes ≤ length listing → placing_words_lem ≤ length placing →
+      record_faults s ≡ [] → plan_bytes ≤ length listing → placing_words ≤ length placing →
       let r = plan_refusal_for (record_faults s) s (short_plan listing || short_placing placing) in let a = listed_answer r (listing_of p) in
       Outcome p a.number (written a (listing_after r (listing_of p) listing))
       × (a.number ≡ 0 → SamePlacing s (written a (listing_after r (listing_of p) listing)) (placing_after r (words_for p) placing))

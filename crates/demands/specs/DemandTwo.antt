@@ -18,14 +18,14 @@ use Rattle.practice.specs.Practice.{practice_sheet, practice_refusal, seed_input
 use Rattle.schedules.specs.Demands.{demands_of}
 use Rattle.method.specs.Method.{day_bounds}
 use Rattle.method.specs.Worded.{settle_all_worded, runs_worded, bounds_worded}
-use Rattle.plan_lines.specs.Sizes.{plan_bytes, placing_words_lem, causes_bytes}
+use Rattle.plan_lines.specs.Sizes.{plan_bytes, placing_words, causes_bytes}
 use Rattle.planning.specs.Problem.{alone, listing_of, words_for}
 use Rattle.planning.specs.Planning.{plan_refusal_for, plan_refusal, short_plan, short_placing, listed_answer, unlisted_answer, listing_after, placing_after}
 use Rattle.planning.specs.ReadListing.{written, lines_of}
 use Rattle.planning.specs.CallAnswers.{room_plan, room_placing, neither}
 use Rattle.planning.specs.ProblemLaws.{may_planned}
 use Rattle.plan_order.specs.declared.Order.TheVariants.{Same, Before, After}
-use Rattle.plan_order.specs.Order.{order_number_lem}
+use Rattle.plan_order.specs.Order.{order_number}
 use Rattle.plan_order.specs.TotalOrder.{TotalOrder}
 use Rattle.comparison.specs.Comparison.{compared_of}
 use Rattle.comparison.specs.OnListings.{slots_and_tanks, order_of_listings}
@@ -61,11 +61,11 @@ pub record DemandTwo : Type 0 where
   pub plan : (b listing : List ℕ) → let p = alone (sheet_of b) in faults b ≡ [] → HasPlacing p → plan_bytes ≤ length listing →
       let r = plan_refusal b (short_plan listing) in let a = listed_answer r (listing_of p) in
       (a.number ≡ 0) × ByMethod p (lines_of (written a (listing_after r (listing_of p) listing)))
-  pub plan_both : (b listing placing : List ℕ) → let p = alone (sheet_of b) in faults b ≡ [] → HasPlacing p → plan_bytes ≤ length listing → placing_words_lem ≤ length placing →
+  pub plan_both : (b listing placing : List ℕ) → let p = alone (sheet_of b) in faults b ≡ [] → HasPlacing p → plan_bytes ≤ length listing → placing_words ≤ length placing →
       let r = plan_refusal b (short_plan listing || short_placing placing) in let a = listed_answer r (listing_of p) in
       (a.number ≡ 0) × ByMethod p (lines_of (written a (listing_after r (listing_of p) listing)))
       × ChosenByMethod p (placing_in (sheet_of b) (placing_after r (words_for p) placing))
-  pub plan_placing : (b placing : List ℕ) → let p = alone (sheet_of b) in faults b ≡ [] → HasPlacing p → placing_words_lem ≤ length placing →
+  pub plan_placing : (b placing : List ℕ) → let p = alone (sheet_of b) in faults b ≡ [] → HasPlacing p → placing_words ≤ length placing →
       let r = plan_refusal b (short_placing placing) in
       ((unlisted_answer r).number ≡ 0) × ChosenByMethod p (placing_in (sheet_of b) (placing_after r (words_for p) placing))
   pub plan_number : (b : List ℕ) → faults b ≡ [] → HasPlacing (alone (sheet_of b)) → (unlisted_answer (plan_refusal b false)).number ≡ 0
@@ -75,8 +75,8 @@ pub record DemandTwo : Type 0 where
       (r.number ≡ 0)
       × ((listing other : List ℕ) → plan_bytes ≤ length listing → plan_bytes ≤ length other →
       let ls = lines_planned a.bytes listing in let ks = lines_planned b.bytes other in
-      (r.order ≡ order_number_lem (order_of_listings s.slots ls t.slots ks))
-      × ((r.order ≡ order_number_lem Same) ↔ ((s.slots ≡ t.slots) × (slots_and_tanks ls ≡ slots_and_tanks ks))))
+      (r.order ≡ order_number (order_of_listings s.slots ls t.slots ks))
+      × ((r.order ≡ order_number Same) ↔ ((s.slots ≡ t.slots) × (slots_and_tanks ls ≡ slots_and_tanks ks))))
   -- what it says is a total order on the sheets that are planned
   pub compare_order : TotalOrder PlannedSheet (Answered Before) (Answered Same) (Answered After)
   -- where it says same, the method gives each slot the same count
@@ -90,13 +90,13 @@ pub record DemandTwo : Type 0 where
   -- use is in `halls_used` of demand 3
   pub plan_halls : (limit halls : ℕ) (a b c d : Hall) → let hs = four a b c d in let r = halls_answer limit halls hs in
       r.number ≡ 0 → (i : ℕ) → i < halls → let h = hall_in hs i in let p = problem_in limit hs i in let x = answer_in r i in let o = (outcome_of limit halls hs i).buffers in
-      faults h.bytes ≡ [] → HasPlacing p → plan_bytes ≤ length h.buffers.listing → placing_words_lem ≤ length h.buffers.placing →
+      faults h.bytes ≡ [] → HasPlacing p → plan_bytes ≤ length h.buffers.listing → placing_words ≤ length h.buffers.placing →
       (x.number ≡ 0) × ByMethod p (lines_of (written x o.listing)) × ChosenByMethod p (placing_in (sheet_of h.bytes) o.placing)
   pub hall_is : (limit : ℕ) (used : List ℕ) (h : Hall) → HallIs limit used h
   -- Short rations: the sheet cut to the share answered, which always has a placing ------------------
 
   -- by the method; `plan_share` of demand 3 says that the share is the greatest
-  pub plan_share : (b listing placing : List ℕ) → faults b ≡ [] → plan_bytes ≤ length listing → placing_words_lem ≤ length placing →
+  pub plan_share : (b listing placing : List ℕ) → faults b ≡ [] → plan_bytes ≤ length listing → placing_words ≤ length placing →
       let r = share_refusal b (short_plan listing || short_placing placing) in let p = share_problem (sheet_of b) in let a = share_answer r (sheet_of b) in
       (a.number ≡ 0) × ByMethod (problem_at b a) (lines_of (written_share a (listing_after r (listing_of p) listing)))
       × ChosenByMethod (problem_at b a) (placing_in (cut_sheet a.share (sheet_of b)) (placing_after r (words_for p) placing))
@@ -107,7 +107,7 @@ pub record DemandTwo : Type 0 where
       record_faults s ≡ [] → HasPlacing p → plan_bytes ≤ length listing → let r = plan_refusal_for (record_faults s) s (short_plan listing) in let a = listed_answer r (listing_of p) in
       (a.number ≡ 0) × ByMethod p (lines_of (written a (listing_after r (listing_of p) listing)))
   pub plan_rations_both : (slots blowers wake : ℕ) (rations : List Ration) (listing placing : List ℕ) → let s = record_sheet slots blowers wake rations in let p = alone s in
-      record_faults s ≡ [] → HasPlacing p → plan_bytes ≤ length listing → placing_words_lem ≤ length placing →
+      record_faults s ≡ [] → HasPlacing p → plan_bytes ≤ length listing → placing_words ≤ length placing →
       let r = plan_refusal_for (record_faults s) s (short_plan listing || short_placing placing) in let a = listed_answer r (listing_of p) in
       (a.number ≡ 0) × ByMethod p (lines_of (written a (listing_after r (listing_of p) listing))) × ChosenByMethod p (placing_in s (placing_after r (words_for p) placing))
   -- The program: what it writes -------------------------------------------------------------------

@@ -18,7 +18,7 @@ use Rattle.checks.specs.Checks.{faults}
 use Rattle.sheet.specs.OwnCheckLaws.{bytes_checked}
 use Rattle.theory.specs.Sums.{sum}
 use Rattle.schedules.specs.Schedules.{load}
-use Rattle.plan_lines.specs.Sizes.{plan_bytes, placing_words_lem}
+use Rattle.plan_lines.specs.Sizes.{plan_bytes, placing_words}
 use Rattle.planning.specs.declared.Planned.{Planned}
 use Rattle.planning.specs.Problem.{Problem, alone, ProblemInRange, can_be_planned, counts_of, listing_of, words_for}
 use Rattle.planning.specs.Planning.{plan_refusal, short_plan, short_placing, listed_answer, listing_after, placing_after, busy_after}
@@ -77,7 +77,7 @@ module _ (limit : ℕ) (used : List ℕ) (h : Hall) where
       record { first = first_planned (bytes_checked h.bytes) p (short_hall h); listing = b.0; placing = b.1 }
 
   -- with buffers that are long enough
-  module _ (formed : faults h.bytes ≡ []) (l : plan_bytes ≤ length h.buffers.listing) (k : placing_words_lem ≤ length h.buffers.placing) where
+  module _ (formed : faults h.bytes ≡ []) (l : plan_bytes ≤ length h.buffers.listing) (k : placing_words ≤ length h.buffers.placing) where
     in_range : ProblemInRange p
     in_range = hall_in_range limit used h ((bytes_checked h.bytes).values formed)
 
@@ -167,7 +167,7 @@ module _ (limit halls : ℕ) (a b c d : Hall) where
     halls_answered_lem i l = of_hall z i l (HallAnswer (problem_in limit hs i) (hall_in hs i)) (hall_answered limit (used_before limit hs i) (hall_in hs i))
 
     module _ (i : ℕ) (l : i < halls) (formed : faults (hall_in hs i).bytes ≡ []) (m : plan_bytes ≤ length (hall_in hs i).buffers.listing)
-        (k : placing_words_lem ≤ length (hall_in hs i).buffers.placing) where
+        (k : placing_words ≤ length (hall_in hs i).buffers.placing) where
       abbrev problem : Problem
       problem = problem_in limit hs i
 

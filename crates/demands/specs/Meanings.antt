@@ -16,7 +16,7 @@ use Rattle.planning.specs.Planning.{plan_refusal, short_plan, short_placing, wri
 use Rattle.schedules.specs.Rest.{rest_demands, rest_high, together, no_feedings}
 use Rattle.planning.specs.Problem.{left, room, can_be_planned, settled_counts, feedings_of, counts_of, shown_set, plan_with, listing_of, words_for}
 use Rattle.planning.specs.ReadListing.{line_in, lines_in, lines_of, head_line, slot_set, stretch_part, feed_part, bill_on, of_meal, placing_on}
-use Rattle.plan_order.specs.Order.{order_of_numbers_lem, order_of_lists, tanks_in, order_of_plans}
+use Rattle.plan_order.specs.Order.{order_of_numbers, order_of_lists, tanks_in, order_of_plans}
 use Rattle.comparison.specs.Comparison.{compare_refusal, order_of, compared_of}
 use Rattle.schedules.specs.Causes.{excess_set, some_above, crossed, lowest, obstacle}
 use Rattle.method.specs.Keeping.{stretches}
@@ -49,7 +49,7 @@ placings = tt
 
 -- from two sheets to the order of their plans
 unfoldable pub comparisons : Unit {0}
-unfolding listings order_of_numbers_lem order_of_lists tanks_in order_of_plans compare_refusal order_of compared_of
+unfolding listings order_of_numbers order_of_lists tanks_in order_of_plans compare_refusal order_of compared_of
 comparisons = tt
 
 -- and to the causes' listing

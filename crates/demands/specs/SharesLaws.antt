@@ -17,7 +17,7 @@ use Rattle.sheet.specs.OwnCheckLaws.{bytes_checked}
 use Rattle.schedules.specs.DemandLaws.{no_job}
 use Rattle.cuts.specs.Cuts.{max_share, cut_job, cut_sheet, greatest_share}
 use Rattle.cuts.specs.Theorems.{rounded_down, rations_cut, share_most, share_least}
-use Rattle.plan_lines.specs.Sizes.{plan_bytes, placing_words_lem}
+use Rattle.plan_lines.specs.Sizes.{plan_bytes, placing_words}
 use Rattle.planning.specs.Problem.{Problem, alone, ProblemInRange, can_be_planned, feedings_of, listing_of, words_for}
 use Rattle.planning.specs.Planning.{plan_checks, plan_refusal, short_plan, short_placing, writes, listed_answer, listing_after, placing_after}
 use Rattle.planning.specs.ReadListing.{lines_of}
@@ -177,7 +177,7 @@ module _ (b listing placing : List ℕ) where
       go false = omega arith
 
   -- with buffers that are long enough
-  module _ (formed : faults b ≡ []) (l : plan_bytes ≤ length listing) (k : placing_words_lem ≤ length placing) where
+  module _ (formed : faults b ≡ []) (l : plan_bytes ≤ length listing) (k : placing_words ≤ length placing) where
     enough : short ≡ false
     enough = neither (short_plan listing) (short_placing placing) (room_plan listing l) (room_placing placing k)
 

@@ -24,7 +24,7 @@ use Rattle.checks.specs.Limits.{max_slots, max_rations}
 use Rattle.schedules.specs.Slots.{Slots, has}
 use Rattle.schedules.specs.Schedules.{Schedule}
 use Rattle.schedules.specs.Tabulate.{get_d_map_below}
-use Rattle.plan_lines.specs.Sizes.{placing_words_lem}
+use Rattle.plan_lines.specs.Sizes.{placing_words}
 use Rattle.plan_lines.specs.FeedLaws.{one}
 use Rattle.plan_lines.specs.PlacingForms.{binary, word_of, words_of, grid_bytes, bytes_of, row_bytes, grid_of, grid_from, words_from, SameFeedings}
 
@@ -71,28 +71,28 @@ pub word_of_few : (p : Schedule) (t : ℕ) → word_of p t < 2 ^ length p
 unfolding word_of
 word_of_few p t = subst (λ n. word_of p t < 2 ^ n) (length-map p (λ c. has c t)) (binary_few (map (λ c. has c t) p))
 
-pub length_words_of : (p : Schedule) → length (words_of p) ≡ placing_words_lem
+pub length_words_of : (p : Schedule) → length (words_of p) ≡ placing_words
 unfolding words_of
-length_words_of p = length_map_range (word_of p) placing_words_lem
+length_words_of p = length_map_range (word_of p) placing_words
 
-pub get_d_words_of : (p : Schedule) (t : ℕ) → t < placing_words_lem → get_or (words_of p) t 0 ≡ word_of p t
+pub get_d_words_of : (p : Schedule) (t : ℕ) → t < placing_words → get_or (words_of p) t 0 ≡ word_of p t
 unfolding words_of
-get_d_words_of p t l = get_d_map_range (word_of p) 0 placing_words_lem t l
+get_d_words_of p t l = get_d_map_range (word_of p) 0 placing_words t l
 
 -- 96 words with these bits, and no others, are those of the placing
-pub words_are : (p : Schedule) (words : List ℕ) → length words ≡ placing_words_lem
-    → ((t j : ℕ) → t < placing_words_lem → bit (get_or words t 0) j ≡ one (has (get_or p j []) t)) → words ≡ words_of p
+pub words_are : (p : Schedule) (words : List ℕ) → length words ≡ placing_words
+    → ((t j : ℕ) → t < placing_words → bit (get_or words t 0) j ≡ one (has (get_or p j []) t)) → words ≡ words_of p
 words_are p words e h =
     ext_get_or 0 words (words_of p) (e ∙ sym (length_words_of p))
     (λ t l.
-    let k : t < placing_words_lem = omega (arith, e) in
+    let k : t < placing_words = omega (arith, e) in
     same_bits _ _ (λ j. h t j k ∙ sym (bit_word_of p t j)) ∙ sym (get_d_words_of p t k))
 
 -- those of no rations are 0
-pub no_words : replicate placing_words_lem 0 ≡ words_of []
+pub no_words : replicate placing_words 0 ≡ words_of []
 no_words =
-    words_are [] (replicate placing_words_lem 0) (length-replicate {A = ℕ} placing_words_lem 0)
-    (λ t j l. ap (λ w. bit w j) (get_d_zeros placing_words_lem t) ∙ bit_of_zero j)
+    words_are [] (replicate placing_words 0) (length-replicate {A = ℕ} placing_words 0)
+    (λ t j l. ap (λ w. bit w j) (get_d_zeros placing_words t) ∙ bit_of_zero j)
 
 -- Bytes --------------------------------------------------------------------------------
 
@@ -179,8 +179,8 @@ module _ (p : Schedule) (short : ShortRows p) (few : length p ≤ max_rations) w
   words_from_lem : words_from (grid_of p) ≡ words_of p
   unfolding words_from
   words_from_lem =
-      words_are p (words_from (grid_of p)) (length_map_range word placing_words_lem)
-      (λ t j l. ap (λ w. bit w j) (get_d_map_range word 0 placing_words_lem t l) ∙ bit_binary (map (fed t) (range 0 max_rations)) j ∙ ap one (at t j l (dec_lt j max_rations)))
+      words_are p (words_from (grid_of p)) (length_map_range word placing_words)
+      (λ t j l. ap (λ w. bit w j) (get_d_map_range word 0 placing_words t l) ∙ bit_binary (map (fed t) (range 0 max_rations)) j ∙ ap one (at t j l (dec_lt j max_rations)))
     where
       fed : ℕ → ℕ → Bool
       fed t i = eqb (get_or (grid_of p) (i * max_slots + t) 0) 1
@@ -188,7 +188,7 @@ module _ (p : Schedule) (short : ShortRows p) (few : length p ≤ max_rations) w
       word : ℕ → ℕ
       word t = binary (map (fed t) (range 0 max_rations))
 
-      at : (t j : ℕ) → t < placing_words_lem → Dec (j < max_rations) → has (map (fed t) (range 0 max_rations)) j ≡ has (get_or p j []) t
+      at : (t j : ℕ) → t < placing_words → Dec (j < max_rations) → has (map (fed t) (range 0 max_rations)) j ≡ has (get_or p j []) t
       at t j l (yes m) = get_d_map_range (fed t) false max_rations j m ∙ ap (λ x. eqb x 1) (grid_byte j t l) ∙ one_is (has (get_or p j []) t)
       at t j l (no m) =
           get_or-eq_default (map (fed t) (range 0 max_rations)) false {n = j} (omega (arith, length_map_range (fed t) max_rations))
@@ -206,6 +206,6 @@ module _ (p : Schedule) (short : ShortRows p) (few : length p ≤ max_rations) w
       }
 
 -- as do 96 zeros and 6,144
-pub no_feedings_lem : SameFeedings (replicate placing_words_lem 0) (replicate grid_bytes 0)
+pub no_feedings_lem : SameFeedings (replicate placing_words 0) (replicate grid_bytes 0)
 unfolding grid_of padded
 no_feedings_lem = subst (λ words. SameFeedings words (replicate grid_bytes 0)) (sym no_words) (same_feedings [] (λ j l. absurd (omega arith)) (omega arith))

@@ -8,7 +8,7 @@ use Rattle.common.specs.Buffers.{padded}
 use Rattle.checks.specs.Limits.{max_slots, max_rations}
 use Rattle.schedules.specs.Slots.{Slots, has}
 use Rattle.schedules.specs.Schedules.{Schedule}
-use Rattle.plan_lines.specs.Sizes.{placing_words_lem}
+use Rattle.plan_lines.specs.Sizes.{placing_words}
 
 -- Words --------------------------------------------------------------------------------
 
@@ -23,7 +23,7 @@ word_of p t = binary (map (λ c. has c t) p)
 
 -- the words of a placing: slot t in word t, the slots past the day among them
 unfoldable pub words_of : Schedule → List ℕ
-words_of p = map (word_of p) (range 0 placing_words_lem)
+words_of p = map (word_of p) (range 0 placing_words)
 
 -- Bytes --------------------------------------------------------------------------------
 
@@ -51,11 +51,11 @@ grid_from words = map (λ k. bit (get_or words (k % max_slots) 0) (k / max_slots
 
 -- bit i of word t is 1 where byte i × 96 + t is 1
 unfoldable pub words_from : (grid : List ℕ) → List ℕ
-words_from grid = map (λ t. binary (map (λ i. eqb (get_or grid (i * max_slots + t) 0) 1) (range 0 max_rations))) (range 0 placing_words_lem)
+words_from grid = map (λ t. binary (map (λ i. eqb (get_or grid (i * max_slots + t) 0) 1) (range 0 max_rations))) (range 0 placing_words)
 
 -- 96 words and 6,144 bytes mark the same feedings: each byte is its bit, and both forms are made of each other
 pub record SameFeedings (words grid : List ℕ) : Type 0 where
-  pub words_long : length words ≡ placing_words_lem
+  pub words_long : length words ≡ placing_words
   pub grid_long : length grid ≡ grid_bytes
   pub marks : (i t : ℕ) → i < max_rations → t < max_slots → get_or grid (i * max_slots + t) 0 ≡ bit (get_or words t 0) i
   pub to_grid : grid_from words ≡ grid

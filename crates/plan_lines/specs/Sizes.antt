@@ -14,8 +14,8 @@ abbrev pub plan_bytes : ℕ
 plan_bytes = word_bytes + line_bytes * (2 + 2 * (max_slots * max_blowers))
 
 -- the least length of a placing buffer, 96 words of 64 bits: one for each slot
-abbrev pub placing_words_lem : ℕ
-placing_words_lem = max_slots
+abbrev pub placing_words : ℕ
+placing_words = max_slots
 
 -- the least length of a causes' buffer, and the most that their listing takes
 abbrev pub causes_bytes : ℕ

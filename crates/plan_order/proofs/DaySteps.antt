@@ -8,7 +8,7 @@ use native.Mathlib.Omega.{arith}
 use lib.ListN.{get_or}
 use Rattle.plan_order.specs.declared.Order.{Order}
 use Rattle.plan_order.specs.declared.Order.TheVariants.{Same}
-use Rattle.plan_order.specs.Order.{order_of_numbers_lem, then_by, order_of_tanks, order_of_slots}
+use Rattle.plan_order.specs.Order.{order_of_numbers, then_by, order_of_tanks, order_of_slots}
 use Rattle.plan_order.specs.Clauses.{differs, tanks_of_word, tanks_of_words}
 use Rattle.plan_order.specs.OrderLaws.{same_of, then_differs, numbers_ordered, places_same, first_differs}
 
@@ -19,10 +19,10 @@ SameBefore t numbers fed others fed' =
 
 module _ (slots slots' : ℕ) (numbers fed others fed' : List ℕ) where
   abbrev order : Order
-  order = then_by (order_of_numbers_lem slots slots') (order_of_slots (tanks_of_words slots numbers fed) (tanks_of_words slots' others fed'))
+  order = then_by (order_of_numbers slots slots') (order_of_slots (tanks_of_words slots numbers fed) (tanks_of_words slots' others fed'))
 
   -- D differs
-  pub slots_differ : {x : Order} → x ≡ order_of_numbers_lem slots slots' → differs x ≡ true → x ≡ order
+  pub slots_differ : {x : Order} → x ≡ order_of_numbers slots slots' → differs x ≡ true → x ≡ order
   slots_differ {x} e f = sym (ap (λ y. then_by y (order_of_slots (tanks_of_words slots numbers fed) (tanks_of_words slots' others fed'))) (sym e) ∙ then_differs x _ f)
 
   pub same_begin : SameBefore 0 numbers fed others fed'
@@ -38,8 +38,8 @@ module _ (slots slots' : ℕ) (numbers fed others fed' : List ℕ) where
       go (no q) = h u (omega arith)
 
   -- D is the same
-  module _ {y : Order} (e : y ≡ order_of_numbers_lem slots slots') (s : differs y ≡ false) where
-    level : order_of_numbers_lem slots slots' ≡ Same
+  module _ {y : Order} (e : y ≡ order_of_numbers slots slots') (s : differs y ≡ false) where
+    level : order_of_numbers slots slots' ≡ Same
     level = sym e ∙ same_of y s
 
     then_slots : order ≡ order_of_slots (tanks_of_words slots numbers fed) (tanks_of_words slots others fed')

@@ -12,7 +12,7 @@ use Rattle.plan_lines.specs.Inputs.{tank_at}
 use Rattle.plan_lines.specs.SetBits.{set_bits_zero, set_bits_lowest}
 use Rattle.plan_order.specs.declared.Order.{Order}
 use Rattle.plan_order.specs.declared.Order.TheVariants.{Same, Before, After}
-use Rattle.plan_order.specs.Order.{order_of_numbers_lem, then_by, order_of_lists, order_of_tanks}
+use Rattle.plan_order.specs.Order.{order_of_numbers, then_by, order_of_lists, order_of_tanks}
 use Rattle.plan_order.specs.Clauses.{differs, tanks_of_word}
 use Rattle.plan_order.specs.OrderLaws.{same_of, then_differs}
 
@@ -58,7 +58,7 @@ module _ (numbers others : List ℕ) (word other : ℕ) where
     second_ends n f = sym (c.to_do ∙ ap₂ order_of_tanks (some_tank numbers c.rest_fits n) (no_tanks others f))
 
     -- a tank of each
-    module _ (n : rest ≢ 0) (m : other_rest ≢ 0) {i j : ℕ} (a : Lowest rest i) (b : Lowest other_rest j) {x : Order} (e : x ≡ order_of_numbers_lem (tank_at numbers i) (tank_at others j)) where
+    module _ (n : rest ≢ 0) (m : other_rest ≢ 0) {i j : ℕ} (a : Lowest rest i) (b : Lowest other_rest j) {x : Order} (e : x ≡ order_of_numbers (tank_at numbers i) (tank_at others j)) where
       next : order ≡ then_by x (order_of_tanks (tanks_of_word numbers (rest - 2 ^ i)) (tanks_of_word others (other_rest - 2 ^ j)))
       unfolding order_of_lists
       next =

@@ -10,17 +10,17 @@ use Rattle.plan_order.specs.declared.Order.TheVariants.{No, Same, Before, After}
 
 -- the number of each word that a comparison answers: no where a sheet is refused, otherwise same, before or after, said
 -- of the first sheet
-abbrev pub order_number_lem : Order → ℕ
-order_number_lem No = 0
-order_number_lem Same = 1
-order_number_lem Before = 2
-order_number_lem After = 3
+abbrev pub order_number : Order → ℕ
+order_number No = 0
+order_number Same = 1
+order_number Before = 2
+order_number After = 3
 
 -- Two numbers, two lists --------------------------------------------------------------
 
 -- the smaller number first
-unfoldable pub order_of_numbers_lem : ℕ → ℕ → Order
-order_of_numbers_lem x y = cond (ltb x y) Before (cond (ltb y x) After Same)
+unfoldable pub order_of_numbers : ℕ → ℕ → Order
+order_of_numbers x y = cond (ltb x y) Before (cond (ltb y x) After Same)
 
 -- what the first comparison answers; where that is same, what the next one answers
 abbrev pub then_by : Order → Order → Order
@@ -39,7 +39,7 @@ module _ {A : Type 0} (order : A → A → Order) where
 
 -- the tanks fed in two slots, number by number
 abbrev pub order_of_tanks : List ℕ → List ℕ → Order
-order_of_tanks = order_of_lists order_of_numbers_lem
+order_of_tanks = order_of_lists order_of_numbers
 
 -- for each slot a list: at the first slot that differs the smaller list
 abbrev pub order_of_slots : List (List ℕ) → List (List ℕ) → Order
@@ -57,4 +57,4 @@ fed_tanks p = map (tanks_in p) (range 0 p.slots)
 
 -- smaller D first, then at the first slot that differs the smaller list
 unfoldable pub order_of_plans : Plan → Plan → Order
-order_of_plans p q = then_by (order_of_numbers_lem p.slots q.slots) (order_of_slots (fed_tanks p) (fed_tanks q))
+order_of_plans p q = then_by (order_of_numbers p.slots q.slots) (order_of_slots (fed_tanks p) (fed_tanks q))

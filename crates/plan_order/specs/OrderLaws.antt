@@ -11,7 +11,7 @@ use Rattle.method.specs.Cases.{lt_or_eq_or_gt}
 use Rattle.plan_lines.specs.Lines.{Plan}
 use Rattle.plan_order.specs.declared.Order.{Order}
 use Rattle.plan_order.specs.declared.Order.TheVariants.{No, Same, Before, After}
-use Rattle.plan_order.specs.Order.{order_number_lem, order_of_numbers_lem, then_by, order_of_lists, order_of_slots, fed_tanks}
+use Rattle.plan_order.specs.Order.{order_number, order_of_numbers, then_by, order_of_lists, order_of_slots, fed_tanks}
 use Rattle.plan_order.specs.Clauses.{differs}
 use Rattle.plan_order.specs.TotalOrder.{ExactlyOne, TotalOrder}
 
@@ -31,16 +31,16 @@ turn_then Before y = refl
 turn_then After y = refl
 
 then_same : (x y : Order) → then_by x y ≡ Same → (x ≡ Same) × (y ≡ Same)
-then_same No y e = absurd (omega (arith, ap order_number_lem e))
+then_same No y e = absurd (omega (arith, ap order_number e))
 then_same Same y e = (refl, e)
-then_same Before y e = absurd (omega (arith, ap order_number_lem e))
-then_same After y e = absurd (omega (arith, ap order_number_lem e))
+then_same Before y e = absurd (omega (arith, ap order_number e))
+then_same After y e = absurd (omega (arith, ap order_number e))
 
 then_answered : (x y : Order) → (x ≡ No → ⊥) → (y ≡ No → ⊥) → then_by x y ≡ No → ⊥
 then_answered No y h k e = h refl
 then_answered Same y h k e = k e
-then_answered Before y h k e = omega (arith, ap order_number_lem e)
-then_answered After y h k e = omega (arith, ap order_number_lem e)
+then_answered Before y h k e = omega (arith, ap order_number e)
+then_answered After y h k e = omega (arith, ap order_number e)
 
 -- Laws of an order, of numbers, of lists and of pairs alike -------------------------------
 
@@ -57,44 +57,44 @@ then_transitive : {A : Type 0} {order : A → A → Order} → Ordered order →
 then_transitive {A} {order} o x y z {u} {v} {w} h e f = go (order x y) (order y z) refl refl e f
   where
     go : (a b : Order) → order x y ≡ a → order y z ≡ b → then_by a u ≡ Before → then_by b v ≡ Before → then_by (order x z) w ≡ Before
-    go No b p q e f = absurd (omega (arith, ap order_number_lem e))
-    go Same No p q e f = absurd (omega (arith, ap order_number_lem f))
+    go No b p q e f = absurd (omega (arith, ap order_number e))
+    go Same No p q e f = absurd (omega (arith, ap order_number f))
     go Same Same p q e f = rw (← o.equal y z q, p) (h e f)
     go Same Before p q e f = rw (o.equal x y p, q) refl
-    go Same After p q e f = absurd (omega (arith, ap order_number_lem f))
-    go Before No p q e f = absurd (omega (arith, ap order_number_lem f))
+    go Same After p q e f = absurd (omega (arith, ap order_number f))
+    go Before No p q e f = absurd (omega (arith, ap order_number f))
     go Before Same p q e f = rw (← o.equal y z q, p) refl
     go Before Before p q e f = rw (o.transitive x y z p q) refl
-    go Before After p q e f = absurd (omega (arith, ap order_number_lem f))
-    go After b p q e f = absurd (omega (arith, ap order_number_lem e))
+    go Before After p q e f = absurd (omega (arith, ap order_number f))
+    go After b p q e f = absurd (omega (arith, ap order_number e))
 
 -- Numbers ---------------------------------------------------------------------------
 
-pub numbers_before : {x y : ℕ} → x < y → order_of_numbers_lem x y ≡ Before
-unfolding order_of_numbers_lem
+pub numbers_before : {x y : ℕ} → x < y → order_of_numbers x y ≡ Before
+unfolding order_of_numbers
 numbers_before {x} {y} l = rw (lt-ltb x y l)
 
-pub numbers_after : {x y : ℕ} → y < x → order_of_numbers_lem x y ≡ After
-unfolding order_of_numbers_lem
+pub numbers_after : {x y : ℕ} → y < x → order_of_numbers x y ≡ After
+unfolding order_of_numbers
 numbers_after {x} {y} l = rw (le-ltb x y (omega arith), lt-ltb y x l)
 
-pub numbers_same : {x y : ℕ} → x ≡ y → order_of_numbers_lem x y ≡ Same
-unfolding order_of_numbers_lem
+pub numbers_same : {x y : ℕ} → x ≡ y → order_of_numbers x y ≡ Same
+unfolding order_of_numbers
 numbers_same {x} {y} e = rw (le-ltb x y (omega arith), le-ltb y x (omega arith))
 
 -- one number is less, or they are equal
 abbrev Cases : ℕ → ℕ → Type 0
 Cases x y = (x < y) ⊎ ((x ≡ y) ⊎ (y < x))
 
-before_less : (x y : ℕ) → order_of_numbers_lem x y ≡ Before → x < y
+before_less : (x y : ℕ) → order_of_numbers x y ≡ Before → x < y
 before_less x y e = go (lt_or_eq_or_gt x y)
   where
     go : Cases x y → x < y
     go (inl l) = l
-    go (inr (inl l)) = absurd (omega (arith, ap order_number_lem (sym (numbers_same l) ∙ e)))
-    go (inr (inr l)) = absurd (omega (arith, ap order_number_lem (sym (numbers_after l) ∙ e)))
+    go (inr (inl l)) = absurd (omega (arith, ap order_number (sym (numbers_same l) ∙ e)))
+    go (inr (inr l)) = absurd (omega (arith, ap order_number (sym (numbers_after l) ∙ e)))
 
-pub numbers_ordered : Ordered order_of_numbers_lem
+pub numbers_ordered : Ordered order_of_numbers
 numbers_ordered =
     record {
       answered = λ x y e. answered x y e (lt_or_eq_or_gt x y);
@@ -104,17 +104,17 @@ numbers_ordered =
       transitive = λ x y z e f. numbers_before (omega (arith, before_less x y e, before_less y z f));
     }
   where
-    answered : (x y : ℕ) → order_of_numbers_lem x y ≡ No → Cases x y → ⊥
-    answered x y e (inl l) = omega (arith, ap order_number_lem (sym (numbers_before l) ∙ e))
-    answered x y e (inr (inl l)) = omega (arith, ap order_number_lem (sym (numbers_same l) ∙ e))
-    answered x y e (inr (inr l)) = omega (arith, ap order_number_lem (sym (numbers_after l) ∙ e))
+    answered : (x y : ℕ) → order_of_numbers x y ≡ No → Cases x y → ⊥
+    answered x y e (inl l) = omega (arith, ap order_number (sym (numbers_before l) ∙ e))
+    answered x y e (inr (inl l)) = omega (arith, ap order_number (sym (numbers_same l) ∙ e))
+    answered x y e (inr (inr l)) = omega (arith, ap order_number (sym (numbers_after l) ∙ e))
 
-    equal : (x y : ℕ) → order_of_numbers_lem x y ≡ Same → Cases x y → x ≡ y
-    equal x y e (inl l) = absurd (omega (arith, ap order_number_lem (sym (numbers_before l) ∙ e)))
+    equal : (x y : ℕ) → order_of_numbers x y ≡ Same → Cases x y → x ≡ y
+    equal x y e (inl l) = absurd (omega (arith, ap order_number (sym (numbers_before l) ∙ e)))
     equal x y e (inr (inl l)) = l
-    equal x y e (inr (inr l)) = absurd (omega (arith, ap order_number_lem (sym (numbers_after l) ∙ e)))
+    equal x y e (inr (inr l)) = absurd (omega (arith, ap order_number (sym (numbers_after l) ∙ e)))
 
-    exchanged : (x y : ℕ) → Cases x y → order_of_numbers_lem y x ≡ turn (order_of_numbers_lem x y)
+    exchanged : (x y : ℕ) → Cases x y → order_of_numbers y x ≡ turn (order_of_numbers x y)
     exchanged x y (inl l) = numbers_after l ∙ ap turn (sym (numbers_before l))
     exchanged x y (inr (inl l)) = numbers_same (sym l) ∙ ap turn (sym (numbers_same l))
     exchanged x y (inr (inr l)) = numbers_before l ∙ ap turn (sym (numbers_after l))
@@ -124,9 +124,9 @@ numbers_ordered =
 module _ {A : Type 0} {order : A → A → Order} (o : Ordered order) where
   list_answered : (xs ys : List A) → order_of_lists order xs ys ≡ No → ⊥
   unfolding order_of_lists
-  list_answered [] [] e = omega (arith, ap order_number_lem e)
-  list_answered [] (y ∷ ys) e = omega (arith, ap order_number_lem e)
-  list_answered (x ∷ xs) [] e = omega (arith, ap order_number_lem e)
+  list_answered [] [] e = omega (arith, ap order_number e)
+  list_answered [] (y ∷ ys) e = omega (arith, ap order_number e)
+  list_answered (x ∷ xs) [] e = omega (arith, ap order_number e)
   list_answered (x ∷ xs) (y ∷ ys) e = then_answered (order x y) (order_of_lists order xs ys) (o.answered x y) (list_answered xs ys) e
 
   list_itself : (xs : List A) → order_of_lists order xs xs ≡ Same
@@ -137,8 +137,8 @@ module _ {A : Type 0} {order : A → A → Order} (o : Ordered order) where
   list_equal : (xs ys : List A) → order_of_lists order xs ys ≡ Same → xs ≡ ys
   unfolding order_of_lists
   list_equal [] [] e = refl
-  list_equal [] (y ∷ ys) e = absurd (omega (arith, ap order_number_lem e))
-  list_equal (x ∷ xs) [] e = absurd (omega (arith, ap order_number_lem e))
+  list_equal [] (y ∷ ys) e = absurd (omega (arith, ap order_number e))
+  list_equal (x ∷ xs) [] e = absurd (omega (arith, ap order_number e))
   list_equal (x ∷ xs) (y ∷ ys) e =
       let h = then_same (order x y) (order_of_lists order xs ys) e in
       ap₂ (λ (a : A) (l : List A). a ∷ l) (o.equal x y h.0) (list_equal xs ys h.1)
@@ -152,11 +152,11 @@ module _ {A : Type 0} {order : A → A → Order} (o : Ordered order) where
 
   list_transitive : (xs ys zs : List A) → order_of_lists order xs ys ≡ Before → order_of_lists order ys zs ≡ Before → order_of_lists order xs zs ≡ Before
   unfolding order_of_lists
-  list_transitive [] [] zs e f = absurd (omega (arith, ap order_number_lem e))
-  list_transitive [] (y ∷ ys) [] e f = absurd (omega (arith, ap order_number_lem f))
+  list_transitive [] [] zs e f = absurd (omega (arith, ap order_number e))
+  list_transitive [] (y ∷ ys) [] e f = absurd (omega (arith, ap order_number f))
   list_transitive [] (y ∷ ys) (z ∷ zs) e f = refl
-  list_transitive (x ∷ xs) [] zs e f = absurd (omega (arith, ap order_number_lem e))
-  list_transitive (x ∷ xs) (y ∷ ys) [] e f = absurd (omega (arith, ap order_number_lem f))
+  list_transitive (x ∷ xs) [] zs e f = absurd (omega (arith, ap order_number e))
+  list_transitive (x ∷ xs) (y ∷ ys) [] e f = absurd (omega (arith, ap order_number f))
   list_transitive (x ∷ xs) (y ∷ ys) (z ∷ zs) e f = then_transitive o x y z (list_transitive xs ys zs) e f
 
   pub lists_ordered : Ordered (order_of_lists order)
@@ -210,22 +210,22 @@ abbrev pub day_of : Plan → Day
 day_of p = (p.slots, fed_tanks p)
 
 abbrev pub order_of_days : Day → Day → Order
-order_of_days a b = then_by (order_of_numbers_lem a.0 b.0) (order_of_slots a.1 b.1)
+order_of_days a b = then_by (order_of_numbers a.0 b.0) (order_of_slots a.1 b.1)
 
 pub days_ordered : Ordered order_of_days
 days_ordered =
     record {
-      answered = λ a b. then_answered (order_of_numbers_lem a.0 b.0) (order_of_slots a.1 b.1) (n.answered a.0 b.0) (s.answered a.1 b.1);
+      answered = λ a b. then_answered (order_of_numbers a.0 b.0) (order_of_slots a.1 b.1) (n.answered a.0 b.0) (s.answered a.1 b.1);
       itself = λ a. rw (n.itself a.0) (s.itself a.1);
       equal = λ a b e.
-          let h = then_same (order_of_numbers_lem a.0 b.0) (order_of_slots a.1 b.1) e in
+          let h = then_same (order_of_numbers a.0 b.0) (order_of_slots a.1 b.1) e in
           ap₂ (λ x y. (x, y)) (n.equal a.0 b.0 h.0) (s.equal a.1 b.1 h.1);
       exchanged = λ a b.
-          ap₂ then_by (n.exchanged a.0 b.0) (s.exchanged a.1 b.1) ∙ turn_then (order_of_numbers_lem a.0 b.0) (order_of_slots a.1 b.1);
+          ap₂ then_by (n.exchanged a.0 b.0) (s.exchanged a.1 b.1) ∙ turn_then (order_of_numbers a.0 b.0) (order_of_slots a.1 b.1);
       transitive = λ a b c e f. then_transitive n a.0 b.0 c.0 (s.transitive a.1 b.1 c.1) e f;
     }
   where
-    n : Ordered order_of_numbers_lem
+    n : Ordered order_of_numbers
     n = numbers_ordered
 
     s : Ordered order_of_slots
@@ -241,9 +241,9 @@ module _ {A B : Type 0} {order : A → A → Order} (o : Ordered order) (key : B
   exactly_one : (x y : B) → ExactlyOne (by x y ≡ Before) (by x y ≡ Same) (by x y ≡ After)
   exactly_one x y = (
     one (by x y) refl,
-    λ h. omega (arith, ap order_number_lem (sym h.0 ∙ h.1)),
-    λ h. omega (arith, ap order_number_lem (sym h.0 ∙ h.1)),
-    λ h. omega (arith, ap order_number_lem (sym h.0 ∙ h.1)),
+    λ h. omega (arith, ap order_number (sym h.0 ∙ h.1)),
+    λ h. omega (arith, ap order_number (sym h.0 ∙ h.1)),
+    λ h. omega (arith, ap order_number (sym h.0 ∙ h.1)),
   )
     where
       one : (z : Order) → by x y ≡ z → (by x y ≡ Before) ⊎ ((by x y ≡ Same) ⊎ (by x y ≡ After))
@@ -255,8 +255,8 @@ module _ {A B : Type 0} {order : A → A → Order} (o : Ordered order) (key : B
   same_where_neither : (x y : B) → (by x y ≡ Same) ↔ ((¬ (by x y ≡ Before)) × (¬ (by y x ≡ Before)))
   same_where_neither x y = (
     λ e. (
-      λ f. omega (arith, ap order_number_lem (sym e ∙ f)),
-      λ f. omega (arith, ap order_number_lem (sym (ap turn e) ∙ sym (o.exchanged (key x) (key y)) ∙ f)),
+      λ f. omega (arith, ap order_number (sym e ∙ f)),
+      λ f. omega (arith, ap order_number (sym (ap turn e) ∙ sym (o.exchanged (key x) (key y)) ∙ f)),
     ),
     λ h. go (by x y) refl h,
   )
@@ -271,7 +271,7 @@ module _ {A B : Type 0} {order : A → A → Order} (o : Ordered order) (key : B
   total =
       record {
         exactly_one = exactly_one;
-        not_before_itself = λ x e. omega (arith, ap order_number_lem (sym (o.itself (key x)) ∙ e));
+        not_before_itself = λ x e. omega (arith, ap order_number (sym (o.itself (key x)) ∙ e));
         transitive = λ x y z. o.transitive (key x) (key y) (key z);
         turned = λ x y. (λ e. o.exchanged (key x) (key y) ∙ ap turn e, λ e. o.exchanged (key y) (key x) ∙ ap turn e);
         same_transitive = λ x y z e f. ap (order (key x)) (sym (o.equal (key y) (key z) f)) ∙ e;
@@ -306,7 +306,7 @@ total_as {B} {before} {same} {after} {before'} {same'} {after'} t f g h =
     one x y (inr (inr a)) = inr (inr ((h x y).0 a))
 
 -- no two answers have the same number
-pub number_tells : (x y : Order) → order_number_lem x ≡ order_number_lem y → x ≡ y
+pub number_tells : (x y : Order) → order_number x ≡ order_number y → x ≡ y
 number_tells No No e = refl
 number_tells No Same e = absurd (omega (arith, e))
 number_tells No Before e = absurd (omega (arith, e))

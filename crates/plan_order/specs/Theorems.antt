@@ -5,12 +5,12 @@ use Rattle.std.proofs.Common.{sym, ap, ◌∙◌, arith}
 use Rattle.common.specs.ListLaws.{get_d_map_range}
 use Rattle.plan_lines.specs.Lines.{Plan}
 use Rattle.plan_order.specs.declared.Order.TheVariants.{No, Same, Before, After}
-use Rattle.plan_order.specs.Order.{order_number_lem, order_of_tanks, tanks_in, order_of_plans}
+use Rattle.plan_order.specs.Order.{order_number, order_of_tanks, tanks_in, order_of_plans}
 use Rattle.plan_order.specs.TotalOrder.{TotalOrder}
 use Rattle.plan_order.specs.OrderLaws.{numbers_ordered, lists_ordered, places_same, day_of, days_ordered, total}
 
 -- The number of each answer, as callers have it.
-pub answer_numbers : (order_number_lem No ≡ 0) × (order_number_lem Same ≡ 1) × (order_number_lem Before ≡ 2) × (order_number_lem After ≡ 3)
+pub answer_numbers : (order_number No ≡ 0) × (order_number Same ≡ 1) × (order_number Before ≡ 2) × (order_number After ≡ 3)
 answer_numbers = (refl, refl, refl, refl)
 
 -- A total order on plans.

@@ -1,6 +1,6 @@
 // The order of two days: the shorter one first, then by the first slot that differs.
 ghost use Rattle.std.specs.Prelude.{◌≡◌};
-ghost use Rattle.plan_order.specs.Order.{then_by, order_of_numbers_lem, order_of_slots};
+ghost use Rattle.plan_order.specs.Order.{then_by, order_of_numbers, order_of_slots};
 ghost use Rattle.plan_order.specs.Clauses.{CanOrder, tanks_of_words};
 
 use crate::Order;
@@ -18,7 +18,7 @@ pub fn order_of_days(
     other_fed: &[u64; 96],
 ) -> Order
     requires { CanOrder slots numbers.now fed.now others.now other_fed.now }
-    ensures { result ≡ then_by (order_of_numbers_lem slots other_slots)
+    ensures { result ≡ then_by (order_of_numbers slots other_slots)
         (order_of_slots (tanks_of_words slots numbers.now fed.now) (tanks_of_words other_slots others.now other_fed.now)) }
 {
     let by_slots = order_of_numbers(slots, other_slots);

@@ -1,13 +1,13 @@
 // The order of two numbers, and the number of each answer.
 ghost use Rattle.std.specs.Prelude.{◌≡◌};
-ghost use Rattle.plan_order.specs.Order.{order_number_lem, order_of_numbers_lem};
+ghost use Rattle.plan_order.specs.Order.{order_number, order_of_numbers};
 ghost use Rattle.plan_order.specs.Clauses.{differs};
 
 use crate::Order;
 
 // The smaller number first.
 pub fn order_of_numbers(x: u32, y: u32) -> Order
-    ensures { result ≡ order_of_numbers_lem x y }
+    ensures { result ≡ order_of_numbers x y }
 {
     if x < y {
         return Order::Before;
@@ -32,7 +32,7 @@ pub fn differs(order: Order) -> bool
 
 // The number of each answer, as the calls give it.
 pub fn order_number(order: Order) -> u32
-    ensures { result ≡ order_number_lem order }
+    ensures { result ≡ order_number order }
 {
     match order {
         Order::No => 0,

@@ -4,7 +4,7 @@
 // The same tank can stand at different places of two sheets, so that tanks are compared and never bits.
 ghost use Rattle.std.specs.Prelude.{◌≡◌, ◌<◌};
 ghost use Rattle.plan_lines.specs.Inputs.{tank_at};
-ghost use Rattle.plan_order.specs.Order.{order_of_numbers_lem, order_of_tanks};
+ghost use Rattle.plan_order.specs.Order.{order_of_numbers, order_of_tanks};
 ghost use Rattle.plan_order.specs.Clauses.{tanks_of_word, BothNumbers};
 
 use crate::Order;
@@ -13,7 +13,7 @@ use crate::numbers::{differs, order_of_numbers};
 // Two tanks, each the first of its ration's four numbers.
 fn order_of_rations(i: u32, numbers: &[u32; 256], j: u32, others: &[u32; 256]) -> Order
     requires { BothNumbers numbers.now others.now × (i < 64) × (j < 64) }
-    ensures { result ≡ order_of_numbers_lem (tank_at numbers.now i) (tank_at others.now j) }
+    ensures { result ≡ order_of_numbers (tank_at numbers.now i) (tank_at others.now j) }
 {
     let x = numbers[4 * (i as usize)];
     let y = others[4 * (j as usize)];

@@ -16,7 +16,7 @@ use Rattle.checks.specs.FaultLaws.{Numbered}
 use Rattle.sheet.specs.OwnChecks.{OfSheet, ReadFrom}
 use Rattle.sheet.specs.OwnCheckLaws.{refused_before, accepted_before, not_held}
 use Rattle.stretches.specs.declared.Day.{Day}
-use Rattle.plan_lines.specs.Sizes.{plan_bytes, placing_words_lem}
+use Rattle.plan_lines.specs.Sizes.{plan_bytes, placing_words}
 use Rattle.listing.specs.Opening.{Written}
 use Rattle.planning.specs.Problem.{Problem, can_be_planned, counts_of, listing_of, words_for}
 use Rattle.planning.specs.Planning.{held_faults, plan_checks, short_plan, short_placing, writes, listed_answer, unlisted_answer, listing_after, placing_after, busy_after}
@@ -38,17 +38,17 @@ unfolding short_plan
 long_plan out e = ltb-false (length out) plan_bytes e
 
 -- what the test of a placing buffer gives
-pub tested_placing : (out : List ℕ) {x : Bool} → x ≡ ltb (length out) placing_words_lem → short_placing out ≡ x
+pub tested_placing : (out : List ℕ) {x : Bool} → x ≡ ltb (length out) placing_words → short_placing out ≡ x
 unfolding short_placing
 tested_placing out e = sym e
 
-pub long_placing : (out : List ℕ) → short_placing out ≡ false → placing_words_lem ≤ length out
+pub long_placing : (out : List ℕ) → short_placing out ≡ false → placing_words ≤ length out
 unfolding short_placing
-long_placing out e = ltb-false (length out) placing_words_lem e
+long_placing out e = ltb-false (length out) placing_words e
 
-pub room_placing : (out : List ℕ) → placing_words_lem ≤ length out → short_placing out ≡ false
+pub room_placing : (out : List ℕ) → placing_words ≤ length out → short_placing out ≡ false
 unfolding short_placing
-room_placing out l = le-ltb (length out) placing_words_lem l
+room_placing out l = le-ltb (length out) placing_words l
 
 pub neither : (x y : Bool) → x ≡ false → y ≡ false → (x || y) ≡ false
 neither x y e f = rw (e, f)

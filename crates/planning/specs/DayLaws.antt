@@ -32,7 +32,7 @@ use Rattle.feedings.specs.ScheduleWordLaws.{words_load}
 use Rattle.method.specs.Theorems.{day_high}
 use Rattle.stretches.specs.declared.Day.{Day}
 use Rattle.stretches.specs.Days.{DayPlanned, HighsOf, DayUnder}
-use Rattle.plan_lines.specs.Sizes.{plan_bytes, placing_words_lem}
+use Rattle.plan_lines.specs.Sizes.{plan_bytes, placing_words}
 use Rattle.plan_lines.specs.Text.{plan_text, held_text}
 use Rattle.plan_lines.specs.PlacingForms.{words_of}
 use Rattle.plan_lines.specs.PlacingFormLaws.{get_d_words_of, no_words}
@@ -183,7 +183,7 @@ module _ {p : Problem} {r : Reading} {d : Day} (h : DayOf p r d) where
       go true e = h.no_fed e ∙ no_words ∙ sym (words_held p (cannot e))
       go false e = fed_is e ∙ sym (words_plan p (can e))
 
-  pub fed_long : length d.fed ≡ placing_words_lem
+  pub fed_long : length d.fed ≡ placing_words
   fed_long = ap length day_words ∙ length_words_for p
 
   pub words_written : (old : List ℕ) {new : List ℕ} → new ≡ over d.fed old → new ≡ over (words_for p) old

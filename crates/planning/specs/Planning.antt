@@ -8,7 +8,7 @@ use Rattle.checks.specs.Sheet.{sheet_of, Sheet}
 use Rattle.checks.specs.Checks.{fault, first_refusal, faults}
 use Rattle.checks.specs.CallChecks.{planning_checks}
 use Rattle.common.specs.Buffers.{over, padded}
-use Rattle.plan_lines.specs.Sizes.{plan_bytes, placing_words_lem}
+use Rattle.plan_lines.specs.Sizes.{plan_bytes, placing_words}
 use Rattle.planning.specs.declared.Planned.{Planned}
 use Rattle.planning.specs.Problem.{Problem, alone, can_be_planned, counts_of}
 
@@ -34,7 +34,7 @@ unfoldable pub short_plan : List ℕ → Bool
 short_plan listing = ltb (length listing) plan_bytes
 
 unfoldable pub short_placing : List ℕ → Bool
-short_placing placing = ltb (length placing) placing_words_lem
+short_placing placing = ltb (length placing) placing_words
 
 -- every number but 0 and 12 changes nothing that is lent and gives length 0
 unfoldable pub writes : ℕ → Bool

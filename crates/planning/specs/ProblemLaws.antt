@@ -37,7 +37,7 @@ use Rattle.method.specs.StopsAt.{StretchesStopFrom}
 use Rattle.method.specs.Theorems.{length_loads, low_is_high, settled_loads, loads_between, loads_feasible, stretches_stop}
 use Rattle.method.specs.FeedingLaws.{chosen_sound}
 use Rattle.method.specs.RestDayLaws.{whole_stops}
-use Rattle.plan_lines.specs.Sizes.{plan_bytes, placing_words_lem}
+use Rattle.plan_lines.specs.Sizes.{plan_bytes, placing_words}
 use Rattle.plan_lines.specs.Lines.{Line, held_lines}
 use Rattle.plan_lines.specs.PlacingForms.{words_of}
 use Rattle.plan_lines.specs.PlacingFormLaws.{length_words_of}
@@ -68,10 +68,10 @@ module _ (p : Problem) where
   unfolding words_for
   words_held held = rw (held, words_for)
 
-pub length_words_for : (p : Problem) → length (words_for p) ≡ placing_words_lem
+pub length_words_for : (p : Problem) → length (words_for p) ≡ placing_words
 length_words_for p = go (can_be_planned p) refl
   where
-    go : (b : Bool) → can_be_planned p ≡ b → length (words_for p) ≡ placing_words_lem
+    go : (b : Bool) → can_be_planned p ≡ b → length (words_for p) ≡ placing_words
     go true e = ap length (words_plan p e) ∙ length_words_of (feedings_of p)
     go false e = ap length (words_held p e) ∙ length_words_of []
 

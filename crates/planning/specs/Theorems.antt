@@ -14,7 +14,7 @@ use Rattle.sheet.specs.Calls.{accepted}
 use Rattle.checks.specs.WellFormedLaws.{well_formed_faults}
 use Rattle.energy.specs.Energy.{starts, energy}
 use Rattle.energy.specs.EnergyLaws.{starts_most, energy_most}
-use Rattle.plan_lines.specs.Sizes.{word_bytes, plan_bytes, placing_words_lem, causes_bytes}
+use Rattle.plan_lines.specs.Sizes.{word_bytes, plan_bytes, placing_words, causes_bytes}
 use Rattle.plan_lines.specs.Lines.{Line, plan_lines}
 use Rattle.plan_lines.specs.Text.{write_lines, plan_word, held_word, plan_text, held_text}
 use Rattle.planning.specs.Problem.{Problem, alone, ProblemInRange, can_be_planned, feedings_of, counts_of, plan_for, listing_of}
@@ -29,7 +29,7 @@ use Rattle.planning.specs.AloneLaws.{alone_in_range}
 pub plan_buffer_size : plan_bytes ≡ 38455
 plan_buffer_size = refl
 
-pub placing_buffer_size : placing_words_lem ≡ 96
+pub placing_buffer_size : placing_words ≡ 96
 placing_buffer_size = refl
 
 pub causes_buffer_size : causes_bytes ≡ 65536

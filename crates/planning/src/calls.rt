@@ -6,7 +6,7 @@ ghost use Rattle.checks.specs.Limits.{max_slots, max_blowers};
 ghost use Rattle.checks.specs.Sheet.{sheet_of};
 ghost use Rattle.sheet.specs.OwnChecks.{SomeReading, ReadSheet};
 ghost use Rattle.stretches.specs.Days.{SomeHighs};
-ghost use Rattle.plan_lines.specs.Sizes.{plan_bytes, placing_words_lem};
+ghost use Rattle.plan_lines.specs.Sizes.{plan_bytes, placing_words};
 ghost use Rattle.planning.specs.Problem.{alone, listing_of, words_for};
 ghost use Rattle.planning.specs.Planning.{plan_refusal, short_plan, short_placing, listed_answer, unlisted_answer, listing_after, placing_after};
 ghost use Rattle.planning.specs.Clauses.{DayFound, DayFoundUnder, SomeDay, DayListed, NumberOf, ReadListed, ReadPlaced, HighsIfRead, ReadUnder, ReadBoth, ReadNumbered};
@@ -96,7 +96,7 @@ fn number_of(is_held: bool) -> u32
 
 // Whether a placing buffer of so many words is too short.
 fn is_short_placing(words: usize) -> bool
-    ensures { result ≡ ltb words placing_words_lem }
+    ensures { result ≡ ltb words placing_words }
 {
     words < PLACING_WORDS
 }

@@ -1,7 +1,7 @@
 -- `comparison::comparing::compare` meets its contract. Assumes nothing.
 use mathlib.Core.Path.{ap, ◌∙◌}
 use Rattle.sheet.specs.OwnCheckLaws.{bytes_read}
-use Rattle.plan_order.specs.Order.{order_number_lem}
+use Rattle.plan_order.specs.Order.{order_number}
 use Rattle.comparison.proofs.CompareSteps.{compare_first, compare_first_held, compare_second, compare_second_held, compare_days, days_can, days_order}
 use Rattle.comparison.proofs.comparing.compare.Goals as goal
 
@@ -27,4 +27,4 @@ pub order_of_days-order-requires : goal.order_of_days-order-requires
 order_of_days-order-requires c = days_can (c.day_of-one.ensures _ _ (bytes_read _ c.read-first.ensures) c.if-first-ne0.false) (c.day_of-other.ensures _ _ (bytes_read _ c.read-second.ensures) c.if-second-ne0.false)
 
 pub returns : goal.returns
-returns c = compare_days c.args.a.now c.args.b.now c.read-first.ensures c.if-first-ne0.false (c.day_of-one.ensures _ _ (bytes_read _ c.read-first.ensures) c.if-first-ne0.false) c.if-one.false c.read-second.ensures c.if-second-ne0.false (c.day_of-other.ensures _ _ (bytes_read _ c.read-second.ensures) c.if-second-ne0.false) c.if-other.false (c.order_number.ensures ∙ ap order_number_lem (c.order_of_days-order.ensures ∙ days_order (c.day_of-one.ensures _ _ (bytes_read _ c.read-first.ensures) c.if-first-ne0.false) (c.day_of-other.ensures _ _ (bytes_read _ c.read-second.ensures) c.if-second-ne0.false) c.if-one.false c.if-other.false))
+returns c = compare_days c.args.a.now c.args.b.now c.read-first.ensures c.if-first-ne0.false (c.day_of-one.ensures _ _ (bytes_read _ c.read-first.ensures) c.if-first-ne0.false) c.if-one.false c.read-second.ensures c.if-second-ne0.false (c.day_of-other.ensures _ _ (bytes_read _ c.read-second.ensures) c.if-second-ne0.false) c.if-other.false (c.order_number.ensures ∙ ap order_number (c.order_of_days-order.ensures ∙ days_order (c.day_of-one.ensures _ _ (bytes_read _ c.read-first.ensures) c.if-first-ne0.false) (c.day_of-other.ensures _ _ (bytes_read _ c.read-second.ensures) c.if-second-ne0.false) c.if-one.false c.if-other.false))
