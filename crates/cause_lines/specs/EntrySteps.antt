@@ -24,7 +24,7 @@ use Rattle.plan_lines.specs.Lines.{Line, line, members_from, member_lines}
 use Rattle.plan_lines.specs.Text.{write_lines}
 use Rattle.plan_lines.specs.Putting.{Put, Putting, putting_begin, putting_more, putting_room, putting_end, put_one, length_write_lines}
 use Rattle.plan_lines.specs.SetBits.{set_bits}
-use Rattle.plan_lines.specs.LengthLaws.{length_set_bits_ones}
+use Rattle.plan_lines.proofs.LengthLaws.{length_set_bits_ones}
 use Rattle.listing.specs.Opening.{put_at_over}
 use Rattle.listing.specs.HeldSteps.{length_member_lines}
 use Rattle.cause_lines.specs.declared.CausedStretch.{CausedStretch}

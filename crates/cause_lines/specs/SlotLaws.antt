@@ -16,7 +16,7 @@ use Rattle.line.specs.Layout.{line_bytes}
 use Rattle.line.specs.Line.{write_line}
 use Rattle.common.specs.Buffers.{put_at}
 use Rattle.schedules.specs.Tabulate.{tab}
-use Rattle.schedules.specs.CauseLaws.{tab_cong}
+use Rattle.schedules.proofs.CauseLaws.{tab_cong}
 use Rattle.placing.specs.declared.Cause.{Cause}
 use Rattle.placing.specs.declared.Cause.TheVariants.{LowAboveHigh}
 use Rattle.placing.specs.CauseCalls.{in_words, in_cause}

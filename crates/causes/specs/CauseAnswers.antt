@@ -7,7 +7,7 @@ use Rattle.sheet.specs.declared.Reading.{Reading}
 use Rattle.checks.specs.Refusals.{short_buffer, no_placing}
 use Rattle.checks.specs.Sheet.{Sheet}
 use Rattle.sheet.specs.OwnChecks.{ReadFrom}
-use Rattle.sheet.specs.OwnCheckLaws.{read_values}
+use Rattle.sheet.proofs.OwnCheckLaws.{read_values}
 use Rattle.schedules.specs.Demands.{no_low}
 use Rattle.placing.specs.Rations.{demands_from}
 use Rattle.method.specs.Endings.{EndedStretch}
@@ -18,9 +18,9 @@ use Rattle.endings.specs.DayCauses.{DayCauses}
 use Rattle.planning.specs.Problem.{alone, left, room, can_be_planned}
 use Rattle.planning.specs.Planning.{plan_refusal_for}
 use Rattle.planning.specs.Clauses.{NumberOf}
-use Rattle.planning.specs.AloneLaws.{alone_in_range}
-use Rattle.planning.specs.DayLaws.{read_alone}
-use Rattle.planning.specs.CallAnswers.{by_read, by_short, by_outcome}
+use Rattle.planning.proofs.AloneLaws.{alone_in_range}
+use Rattle.planning.proofs.DayLaws.{read_alone}
+use Rattle.planning.proofs.CallAnswers.{by_read, by_short, by_outcome}
 use Rattle.causes.specs.declared.CausesAnswer.{CausesAnswer}
 use Rattle.causes.specs.CauseCalls.{endings_of, short_causes, causes_answer, causes_after}
 use Rattle.causes.specs.EndingLaws.{endings_whole}

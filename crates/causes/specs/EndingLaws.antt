@@ -10,12 +10,12 @@ use Rattle.schedules.specs.Causes.{IsCause}
 use Rattle.method.specs.Method.{bounds_under}
 use Rattle.method.specs.Keeping.{stretches}
 use Rattle.method.specs.Endings.{EndedStretch, Explained, settled_endings}
-use Rattle.method.specs.EndingLaws.{endings_by_method, endings_explained, endings_given, in_order_blower}
+use Rattle.method.proofs.EndingLaws.{endings_by_method, endings_explained, endings_given, in_order_blower}
 use Rattle.cause_lines.specs.Entries.{entries_text}
 use Rattle.endings.specs.DayCauses.{day_endings}
 use Rattle.planning.specs.Problem.{Problem, left, room, ProblemInRange, can_be_planned, settled_counts, counts_of}
-use Rattle.planning.specs.ReadLaws.{FitLines}
-use Rattle.planning.specs.ProblemLaws.{windows_left, possible, counts_whole}
+use Rattle.planning.proofs.ReadLaws.{FitLines}
+use Rattle.planning.proofs.ProblemLaws.{windows_left, possible, counts_whole}
 use Rattle.causes.specs.CauseCalls.{endings_of}
 use Rattle.causes.specs.ReadCauses.{entries_in, entry_of}
 use Rattle.causes.specs.ReadCauseLaws.{lines_for, InFields, fit_entries, entries_read}

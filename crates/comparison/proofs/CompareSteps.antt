@@ -18,20 +18,20 @@ use Rattle.checks.specs.NumbersLaws.{length_numbers_of}
 use Rattle.checks.specs.Checks.{fault, first_refusal, faults}
 use Rattle.sheet.specs.declared.Reading.{Reading}
 use Rattle.sheet.specs.Calls.{reading_of, accepted}
-use Rattle.sheet.specs.OwnCheckLaws.{bytes_read, refused_before, accepted_before}
+use Rattle.sheet.proofs.OwnCheckLaws.{bytes_read, refused_before, accepted_before}
 use Rattle.stretches.specs.declared.Day.{Day}
 use Rattle.plan_lines.specs.Inputs.{tank_at}
 use Rattle.plan_lines.specs.SetBits.{set_bits_past}
 use Rattle.plan_order.specs.declared.Order.TheVariants.{No}
 use Rattle.plan_order.specs.Order.{order_number, order_of_numbers, then_by, order_of_slots, tanks_in, fed_tanks, order_of_plans}
 use Rattle.plan_order.specs.Clauses.{tanks_of_word, tanks_of_words, CanOrder}
-use Rattle.plan_order.specs.WordLaws.{tanks_in_word}
+use Rattle.plan_order.proofs.WordLaws.{tanks_in_word}
 use Rattle.planning.specs.Problem.{Problem, alone, can_be_planned, feedings_of, plan_with, plan_for}
 use Rattle.planning.specs.Planning.{held_faults}
 use Rattle.planning.specs.Clauses.{DayOf}
-use Rattle.planning.specs.ListLaws.{map_range_cong}
-use Rattle.planning.specs.InputLaws.{placing_of_holds, tanks_of_numbers_of}
-use Rattle.planning.specs.DayLaws.{day_slots, holds, fed_long}
+use Rattle.planning.proofs.ListLaws.{map_range_cong}
+use Rattle.planning.proofs.InputLaws.{placing_of_holds, tanks_of_numbers_of}
+use Rattle.planning.proofs.DayLaws.{day_slots, holds, fed_long}
 use Rattle.comparison.specs.Comparison.{compare_refusal, order_of, compared_of}
 
 -- ---- two days

@@ -1,1 +1,3 @@
 pub mod CompareSteps
+pub mod ListingLaws
+pub mod Theorems

@@ -2,6 +2,4 @@
 pub mod Comparison
 pub mod OnListings
 -- The theorems a reader looks for
-pub mod Theorems
 -- Laws
-pub mod ListingLaws

@@ -33,9 +33,9 @@ use Rattle.questions.specs.declared.ShortfallAnswer.{ShortfallAnswer}
 use Rattle.questions.specs.ShortfallParts.{ReadShortfall}
 use Rattle.questions.specs.CallLaws.{deficient_infeasible}
 use Rattle.cuts.specs.Clauses.{CutFrom, CanAskShares, ShareAnswered, ReadPossible, ReadNone, Between, ReadBetween, CanHalve, ShareFound}
-use Rattle.cuts.specs.ShareLaws.{none_from, between_up, between_down, between_end}
-use Rattle.cuts.specs.CutDemandLaws.{windows_cut, length_cut}
-use Rattle.cuts.specs.ReadLaws.{cut_read}
+use Rattle.cuts.proofs.ShareLaws.{none_from, between_up, between_down, between_end}
+use Rattle.cuts.proofs.CutDemandLaws.{windows_cut, length_cut}
+use Rattle.cuts.proofs.ReadLaws.{cut_read}
 
 -- ---- one question
 

@@ -8,8 +8,7 @@
 -- The theorem `demand_three` says it of each call that plans, over what the call wrote. A field is named by its call;
 -- Outcome.antt says what is asked of a number and a listing, and explains the demand's words. A sheet is well-formed
 -- where none of the checks of the sheet alone applies: 1 to 9 and 13, and of records 3 to 9 and 13. Assumes nothing.
-use Rattle.std.specs.Prelude.{◌≡◌, refl, ◌⊎◌, ◌↔◌, false, ◌||◌, List, [], ℕ, suc, ◌*◌, ◌≤◌, ◌<◌, length, get_or, take}
-use Rattle.std.proofs.Common.{sym, subst, ◌∙◌, arith}
+use Rattle.std.specs.Prelude.{◌≡◌, ◌⊎◌, ◌↔◌, false, ◌||◌, List, [], ℕ, suc, ◌*◌, ◌≤◌, ◌<◌, length, get_or, take}
 use Rattle.line.specs.Layout.{line_bytes}
 use Rattle.checks.specs.Refusals.{no_placing}
 use Rattle.checks.specs.Sheet.{Sheet, sheet_of}
@@ -21,16 +20,13 @@ use Rattle.plan_lines.specs.Sizes.{plan_bytes, placing_words, causes_bytes}
 use Rattle.planning.specs.Problem.{alone, MayPlace, listing_of, words_for}
 use Rattle.planning.specs.Planning.{plan_refusal_for, plan_refusal, short_plan, short_placing, listed_answer, unlisted_answer, listing_after, placing_after}
 use Rattle.planning.specs.ReadListing.{written, lines_of, head_line, stretch_part}
-use Rattle.planning.specs.CallAnswers.{room_plan, room_placing, neither}
 use Rattle.comparison.specs.Comparison.{compared_of}
 use Rattle.causes.specs.CauseCalls.{endings_of, short_causes, causes_answer, causes_after}
 use Rattle.causes.specs.ReadCauses.{entries_in, written_causes}
-use Rattle.causes.specs.CauseAnswers.{room_causes}
-use Rattle.halls.specs.Halls.{Hall, four, hall_problem, used_before, outcome_of, halls_answer}
+use Rattle.halls.specs.Halls.{Hall, four, used_before, outcome_of, halls_answer}
 use Rattle.cuts.specs.Cuts.{cut_sheet}
 use Rattle.shares.specs.Shares.{share_problem, share_refusal, share_answer}
 use Rattle.program.specs.Program.{explanation_of}
-use Rattle.program.specs.Theorems.{program_writes, program_front}
 use Rattle.records.specs.declared.Ration.{Ration}
 use Rattle.records.specs.Records.{record_sheet, record_faults}
 use Rattle.demands.specs.Answers.{program_text, why_text, practice_text}
@@ -38,13 +34,6 @@ use Rattle.demands.specs.Outcome.{AloneIs, NoneSound, PlannedOrHeld, Outcome, pl
 use Rattle.demands.specs.Causes.{CausesShown}
 use Rattle.demands.specs.Halls.{hall_in, answer_in, problem_in, HallIs, busy_in}
 use Rattle.demands.specs.Shares.{CutIs, problem_at, written_share, IsGreatestShare}
-use Rattle.demands.specs.AnswerLaws.{bytes_in_range, records_in_range, alone_is}
-use Rattle.demands.specs.OutcomeLaws.{written_listing, outcome_of_lem, marks_of_lem, high_alone}
-use Rattle.demands.specs.PracticeLaws.{of_practice, practice_written, practice_taken}
-use Rattle.demands.specs.HallsLaws.{halls_outcome, hall_is, used_is, shown_past, within_limit}
-use Rattle.demands.specs.SharesLaws.{cut_is, share_outcome, share_greatest}
-use Rattle.demands.specs.ComparisonLaws.{comparison_held_iff}
-use Rattle.demands.specs.CausesLaws.{shown_causes, planned, call_shown, why_front, why_causes, why_refused}
 
 pub record DemandThree : Type 0 where
   -- A sheet's bytes -------------------------------------------------------------------------------
@@ -137,92 +126,3 @@ pub record DemandThree : Type 0 where
       → (head_line (lines_of listing)).d ≡ (head_line (lines_of listing)).b * s.blowers
 
 -- The theorem -------------------------------------------------------------------------------------
-
--- what `plan` gives for bytes b with the values of t
-abbrev PlanOutcome : (listing b : List ℕ) → Sheet → Type 0
-PlanOutcome listing b t =
-    let r = plan_refusal b (short_plan listing) in
-    let text = listing_of (alone (sheet_of b)) in
-    let a = listed_answer r text in
-    Outcome (alone t) a.number (written a (listing_after r text listing))
-
-plan_outcome : (b listing : List ℕ) → faults b ≡ [] → plan_bytes ≤ length listing → PlanOutcome listing b (sheet_of b)
-unfolding plan_refusal listed_answer
-plan_outcome b listing formed l =
-    let g = bytes_in_range b formed in
-    let e = room_plan listing l in
-    outcome_of_lem formed _ g (short_plan listing) e _ (written_listing formed _ g (short_plan listing) e listing)
-
-program_outcome : (b : List ℕ) → faults b ≡ [] → Outcome (alone (sheet_of b)) (plan_refusal b false).number (program_text b)
-unfolding plan_refusal
-program_outcome b formed =
-    let g = bytes_in_range b formed in
-    outcome_of_lem formed _ g false refl (program_text b) (program_front b ∙ program_writes b formed [] ∙ written_listing formed _ g false refl [])
-
-pub demand_three : DemandThree
-unfolding halls_answer hall_problem plan_refusal listed_answer unlisted_answer causes_answer
-demand_three =
-    record {
-      plan = plan_outcome;
-      plan_both = λ b listing placing formed l k.
-          let g = bytes_in_range b formed in
-          let short = short_plan listing || short_placing placing in
-          let e = neither (short_plan listing) (short_placing placing) (room_plan listing l) (room_placing placing k) in
-          let w = written_listing formed _ g short e listing in
-          (outcome_of_lem formed _ g short e _ w, marks_of_lem formed _ g short e _ placing w);
-      plan_placing = λ b placing formed k.
-          let p = alone (sheet_of b) in
-          let g = bytes_in_range b formed in
-          let e = room_placing placing k in
-          let o = outcome_of_lem formed p g (short_placing placing) e _ refl in (
-            o.planned_or_held,
-            λ n. subst (MayPlace p) (sym (marks_of_lem formed p g (short_placing placing) e _ placing refl n)) (o.plan n).sound,
-            λ n listing l.
-                marks_of_lem formed p g (short_placing placing) e _ placing (written_listing formed p g (short_plan listing) (room_plan listing l) listing) n,
-          );
-      plan_number = λ b formed. (outcome_of_lem formed _ (bytes_in_range b formed) false refl _ refl).planned_or_held;
-      causes = λ b out formed l.
-          let p = alone (sheet_of b) in
-          let g = bytes_in_range b formed in
-          let e = room_causes out l in (
-            (outcome_of_lem formed p g (short_causes out) e _ refl).planned_or_held,
-            λ z listing k. call_shown formed p g refl (short_causes out) e z out _ (written_listing formed p g (short_plan listing) (room_plan listing k) listing),
-          );
-      practice = λ seed out listing l k.
-          of_practice seed (PlanOutcome listing) (λ b f. plan_outcome b listing f k) (practice_written seed out l);
-      practice_program = λ seed h.
-          of_practice seed (λ b t. Outcome (alone t) (plan_refusal b false).number (program_text b)) program_outcome (practice_taken seed h);
-      compare = comparison_held_iff;
-      plan_halls = halls_outcome;
-      hall_is = hall_is;
-      halls_used = λ limit halls a b c d z t k. (used_is limit halls a b c d z t k, shown_past limit halls a b c d z t, within_limit limit halls a b c d z t k);
-      plan_share = λ b listing placing formed l k.
-          let o = share_outcome b listing placing formed l k in
-          (o.0, o.1, share_greatest b listing placing formed l k);
-      cut_is = cut_is;
-      plan_rations = λ slots blowers wake rations listing formed l.
-          let g = records_in_range (record_sheet slots blowers wake rations) formed in
-          let e = room_plan listing l in
-          outcome_of_lem formed _ g (short_plan listing) e _ (written_listing formed _ g (short_plan listing) e listing);
-      plan_rations_both = λ slots blowers wake rations listing placing formed l k.
-          let g = records_in_range (record_sheet slots blowers wake rations) formed in
-          let short = short_plan listing || short_placing placing in
-          let e = neither (short_plan listing) (short_placing placing) (room_plan listing l) (room_placing placing k) in
-          let w = written_listing formed _ g short e listing in
-          (outcome_of_lem formed _ g short e _ w, marks_of_lem formed _ g short e _ placing w);
-      program = program_outcome;
-      why = λ b formed.
-          let p = alone (sheet_of b) in
-          let g = bytes_in_range b formed in
-          let w = program_front b ∙ program_writes b formed [] ∙ written_listing formed _ g false refl [] in (
-            λ z.
-                let c = why_causes b z in
-                subst (λ x. CausesShown p (stretch_part (lines_of (program_text b))) x (entries_in (why_text b))) (sym c.1)
-                (shown_causes p g refl (planned formed p g refl false refl z) (program_text b) (why_text b) w (why_front b ∙ c.0)),
-            λ n.
-                let c = why_refused b (λ z. omega (arith, n, z)) in
-                outcome_of_lem formed _ g false refl (why_text b) (why_front b ∙ c.0 ∙ sym (program_front b) ∙ w),
-          );
-      alone_is = alone_is;
-      high_is = high_alone;
-    }

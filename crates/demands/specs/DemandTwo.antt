@@ -7,8 +7,7 @@
 -- that it marked, and of reading and writing. A field is named by its call; ByMethod.antt says what is asked of a plan.
 -- A sheet is well-formed where none of the checks of the sheet alone applies: 1 to 9 and 13, and of records 3 to 9 and
 -- 13. Assumes nothing.
-use Rattle.std.specs.Prelude.{◌≡◌, refl, ◌↔◌, false, ◌||◌, List, [], ℕ, suc, ◌*◌, ◌≤◌, ◌<◌, length, take}
-use Rattle.std.proofs.Common.{sym, subst, ◌∙◌}
+use Rattle.std.specs.Prelude.{◌≡◌, ◌↔◌, false, ◌||◌, List, [], ℕ, suc, ◌*◌, ◌≤◌, ◌<◌, length, take}
 use Rattle.line.specs.Layout.{fields, line_bytes}
 use Rattle.checks.specs.Sheet.{Sheet, sheet_of, numbers_of, sheet_from}
 use Rattle.checks.specs.Checks.{faults}
@@ -22,8 +21,6 @@ use Rattle.plan_lines.specs.Sizes.{plan_bytes, placing_words, causes_bytes}
 use Rattle.planning.specs.Problem.{alone, listing_of, words_for}
 use Rattle.planning.specs.Planning.{plan_refusal_for, plan_refusal, short_plan, short_placing, listed_answer, unlisted_answer, listing_after, placing_after}
 use Rattle.planning.specs.ReadListing.{written, lines_of}
-use Rattle.planning.specs.CallAnswers.{room_plan, room_placing, neither}
-use Rattle.planning.specs.ProblemLaws.{may_planned}
 use Rattle.plan_order.specs.declared.Order.TheVariants.{Same, Before, After}
 use Rattle.plan_order.specs.Order.{order_number}
 use Rattle.plan_order.specs.TotalOrder.{TotalOrder}
@@ -31,12 +28,10 @@ use Rattle.comparison.specs.Comparison.{compared_of}
 use Rattle.comparison.specs.OnListings.{slots_and_tanks, order_of_listings}
 use Rattle.causes.specs.CauseCalls.{endings_of, short_causes, causes_answer, causes_after}
 use Rattle.causes.specs.ReadCauses.{entries_in, written_causes}
-use Rattle.causes.specs.CauseAnswers.{room_causes}
-use Rattle.halls.specs.Halls.{Hall, four, hall_problem, outcome_of, halls_answer}
+use Rattle.halls.specs.Halls.{Hall, four, outcome_of, halls_answer}
 use Rattle.cuts.specs.Cuts.{cut_sheet}
 use Rattle.shares.specs.Shares.{share_problem, share_refusal, share_answer}
 use Rattle.program.specs.Program.{explanation_of}
-use Rattle.program.specs.Theorems.{program_writes, program_front}
 use Rattle.records.specs.declared.Ration.{Ration}
 use Rattle.records.specs.Records.{record_sheet, record_faults}
 use Rattle.demands.specs.Answers.{program_text, why_text, practice_text, ValuesRead}
@@ -46,14 +41,6 @@ use Rattle.demands.specs.Comparison.{PlannedSheet, Answered, lines_planned}
 use Rattle.demands.specs.Causes.{CausesByMethod}
 use Rattle.demands.specs.Halls.{hall_in, answer_in, problem_in, HallIs}
 use Rattle.demands.specs.Shares.{CutIs, problem_at, written_share}
-use Rattle.demands.specs.AnswerLaws.{bytes_in_range, records_in_range, alone_is}
-use Rattle.demands.specs.ByMethodLaws.{number_is, listed_by_method, marked_by_method, as_worded, runs_worded_lem}
-use Rattle.demands.specs.ComparisonLaws.{comparison_number, comparison_listed, comparison_ordered, comparison_counts}
-use Rattle.demands.specs.CausesLaws.{by_method_causes, call_by_method, why_front, why_causes}
-use Rattle.demands.specs.PracticeLaws.{of_practice, practice_number, practice_written, practice_taken}
-use Rattle.demands.specs.HallsLaws.{halls_by_method, hall_is}
-use Rattle.demands.specs.SharesLaws.{cut_is, share_by_method}
-use Rattle.demands.specs.RoundTripLaws.{values_read, read_again, rations_read_again, values_again, rations_again}
 
 pub record DemandTwo : Type 0 where
   -- Planning a sheet's bytes ----------------------------------------------------------------------
@@ -157,83 +144,3 @@ pub record DemandTwo : Type 0 where
       (a.number ≡ 0) × ByMethod p (lines_of (written a (listing_after r text listing)))
 
 -- The theorem -------------------------------------------------------------------------------------
-
--- what `plan` gives for bytes b with the values of t
-abbrev PlanByMethod : (listing b : List ℕ) → Sheet → Type 0
-PlanByMethod listing b t =
-    let r = plan_refusal b (short_plan listing) in
-    let text = listing_of (alone (sheet_of b)) in
-    let a = listed_answer r text in
-    (a.number ≡ 0) × ByMethod (alone t) (lines_of (written a (listing_after r text listing)))
-
-plan_by_method : (b listing : List ℕ) → faults b ≡ [] → HasPlacing (alone (sheet_of b)) → plan_bytes ≤ length listing → PlanByMethod listing b (sheet_of b)
-unfolding plan_refusal listed_answer
-plan_by_method b listing formed has l =
-    let g = bytes_in_range b formed in
-    let e = room_plan listing l in
-    (number_is formed _ g has (short_plan listing) e, listed_by_method formed _ g has (short_plan listing) e listing)
-
-program_by_method : (b : List ℕ) → faults b ≡ [] → HasPlacing (alone (sheet_of b)) → ByMethod (alone (sheet_of b)) (lines_of (program_text b))
-unfolding plan_refusal
-program_by_method b formed has =
-    subst (λ x. ByMethod (alone (sheet_of b)) (lines_of x)) (sym (program_front b ∙ program_writes b formed []))
-    (listed_by_method formed _ (bytes_in_range b formed) has false refl [])
-
-pub demand_two : DemandTwo
-unfolding halls_answer hall_problem plan_refusal listed_answer unlisted_answer causes_answer
-demand_two =
-    record {
-      plan = plan_by_method;
-      plan_both = λ b listing placing formed has l k.
-          let g = bytes_in_range b formed in
-          let short = short_plan listing || short_placing placing in
-          let e = neither (short_plan listing) (short_placing placing) (room_plan listing l) (room_placing placing k) in
-          (number_is formed _ g has short e, listed_by_method formed _ g has short e listing, marked_by_method formed _ g has short e placing);
-      plan_placing = λ b placing formed has k.
-          let g = bytes_in_range b formed in
-          let e = room_placing placing k in
-          (number_is formed _ g has (short_placing placing) e, marked_by_method formed _ g has (short_placing placing) e placing);
-      plan_number = λ b formed has. number_is formed _ (bytes_in_range b formed) has false refl;
-      compare = λ a b. (comparison_number a b, comparison_listed a b);
-      compare_order = comparison_ordered;
-      compare_counts = comparison_counts;
-      causes = λ b out formed has l.
-          let g = bytes_in_range b formed in
-          let e = room_causes out l in
-          let z = number_is formed _ g has (short_causes out) e in
-          (z, call_by_method formed _ g refl (short_causes out) e z out);
-      plan_halls = λ limit halls a b c d z i l formed has m k. halls_by_method limit halls a b c d z i l formed m k has;
-      hall_is = hall_is;
-      plan_share = share_by_method;
-      cut_is = cut_is;
-      plan_rations = λ slots blowers wake rations listing formed has l.
-          let g = records_in_range (record_sheet slots blowers wake rations) formed in
-          let e = room_plan listing l in
-          (number_is formed _ g has (short_plan listing) e, listed_by_method formed _ g has (short_plan listing) e listing);
-      plan_rations_both = λ slots blowers wake rations listing placing formed has l k.
-          let g = records_in_range (record_sheet slots blowers wake rations) formed in
-          let short = short_plan listing || short_placing placing in
-          let e = neither (short_plan listing) (short_placing placing) (room_plan listing l) (room_placing placing k) in
-          (number_is formed _ g has short e, listed_by_method formed _ g has short e listing, marked_by_method formed _ g has short e placing);
-      program = program_by_method;
-      why = λ b formed has.
-          let g = bytes_in_range b formed in
-          let c = why_causes b (number_is formed _ g has false refl) in
-          subst (λ x. CausesByMethod (alone (sheet_of b)) x (entries_in (why_text b))) (sym c.1)
-          (by_method_causes _ g refl (may_planned _ g has.0 has.1) (why_text b) (why_front b ∙ c.0));
-      practice_program = λ seed h.
-          let e = practice_taken seed h in
-          let read = of_practice seed (λ b t. (faults b ≡ []) × ValuesRead t (reading_of b)) (λ b f. (f, values_read b f)) e in
-          (read.0, read.1, of_practice seed (λ b t. HasPlacing (alone t) → ByMethod (alone t) (lines_of (program_text b))) program_by_method e);
-      alone_is = alone_is;
-      worded = λ s. (as_worded s, runs_worded_lem s);
-      read_write = read_again;
-      write_read = values_again;
-      read_write_rations = rations_read_again;
-      write_rations_read = rations_again;
-      practice = λ seed out l.
-          let read = of_practice seed (λ b t. (faults b ≡ []) × ValuesRead t (reading_of b)) (λ b f. (f, values_read b f)) (practice_written seed out l) in
-          (practice_number seed out l, read.0, read.1);
-      practice_plan = λ seed out listing l has k.
-          of_practice seed (λ b t. HasPlacing (alone t) → PlanByMethod listing b t) (λ b f has. plan_by_method b listing f has k) (practice_written seed out l) has;
-    }

@@ -15,12 +15,3 @@ pub mod Causes
 pub mod Halls
 pub mod Shares
 -- Laws
-pub mod AnswerLaws
-pub mod OutcomeLaws
-pub mod ByMethodLaws
-pub mod RoundTripLaws
-pub mod ComparisonLaws
-pub mod CausesLaws
-pub mod PracticeLaws
-pub mod HallsLaws
-pub mod SharesLaws

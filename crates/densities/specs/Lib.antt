@@ -1,5 +1,3 @@
 -- Definitions
 pub mod Densities
 -- Laws
-pub mod SpreadLaws
-pub mod DensityLaws

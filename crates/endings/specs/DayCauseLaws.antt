@@ -11,9 +11,9 @@ use Rattle.placing.specs.Words.{WindowWords, VolumeBytes}
 use Rattle.placing.specs.FeasibilitySteps.{demand_words, ration_words, can_begin}
 use Rattle.placing.specs.HeldSteps.{full_words, length_full}
 use Rattle.method.specs.Method.{day_bounds}
-use Rattle.method.specs.EndingLaws.{endings_settled}
+use Rattle.method.proofs.EndingLaws.{endings_settled}
 use Rattle.stretches.specs.Settling.{Under}
-use Rattle.stretches.specs.SettlingLaws.{under_possible}
+use Rattle.stretches.proofs.SettlingLaws.{under_possible}
 use Rattle.plan_lines.specs.Sizes.{causes_bytes}
 use Rattle.cause_lines.specs.declared.Extent.{Extent}
 use Rattle.cause_lines.specs.EntryCalls.{Listing}

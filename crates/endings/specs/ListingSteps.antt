@@ -11,7 +11,7 @@ use Rattle.placing.specs.declared.Cause.{Cause}
 use Rattle.placing.specs.declared.Answer.TheVariants.{Yes, No}
 use Rattle.method.specs.Method.{Bounds, feasible_under}
 use Rattle.method.specs.Slotwise.{keep_at, settle_from}
-use Rattle.method.specs.StepLaws.{settle_from_stays, settle_from_changes}
+use Rattle.method.proofs.StepLaws.{settle_from_stays, settle_from_changes}
 use Rattle.method.specs.Endings.{EndedStretch}
 use Rattle.method.specs.SlotwiseEndings.{ended_at, ended_from, ended_each}
 use Rattle.stretches.specs.Settling.{Under, SomeDay, SomeSlot}

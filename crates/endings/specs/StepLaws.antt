@@ -5,9 +5,9 @@ use Rattle.placing.specs.declared.Cause.{Cause}
 use Rattle.placing.specs.declared.Answer.{Answer}
 use Rattle.placing.specs.declared.Answer.TheVariants.{Yes, No}
 use Rattle.placing.specs.CauseCalls.{IdleAnswered, BusyAnswered}
-use Rattle.method.specs.StepLaws.{other_possible}
+use Rattle.method.proofs.StepLaws.{other_possible}
 use Rattle.stretches.specs.Settling.{SomeSlot, Kept}
-use Rattle.stretches.specs.SettlingLaws.{under_possible, kept_idle, kept_busy, cannot_stay, slot_again}
+use Rattle.stretches.proofs.SettlingLaws.{under_possible, kept_idle, kept_busy, cannot_stay, slot_again}
 use Rattle.endings.specs.Steps.{KeptOrCause, StepTaken}
 
 module _ {t k : ℕ} {F R H C : List ℕ} where

@@ -7,8 +7,8 @@ use Rattle.std.proofs.Math.Decide.{ℕ_discrete}
 use Rattle.std.proofs.lemmas.List.{length-replicate, set-get_or}
 use Rattle.std.specs.Int.Bits.{bit_and}
 use Rattle.theory.specs.Placing.{count, Placing}
-use Rattle.theory.specs.Volumes.{no_placing_lem}
-use Rattle.theory.specs.Closed.{certificate}
+use Rattle.theory.proofs.Volumes.{no_placing_lem}
+use Rattle.theory.proofs.Closed.{certificate}
 use Rattle.common.specs.Bits.{bit, bit_lt, some_bit, both_of_and, and_of_both}
 use Rattle.grid.specs.Grid.{slots, at, load, Seen, Closed, Grid, ind}
 use Rattle.grid.specs.Search.{Won, Lost, CanPush, Pushed}

@@ -21,7 +21,7 @@ use Rattle.plan_lines.specs.Putting.{Put, length_write_lines, write_lines_append
 use Rattle.plan_lines.specs.StretchSteps.{CanPutStretches}
 use Rattle.plan_lines.specs.FeedSteps.{CanPutFeedings}
 use Rattle.listing.specs.Opening.{Written, listing_written, listing_length}
-use Rattle.plan_lines.specs.LengthLaws.{length_stretch_lines, length_feed_lines_words}
+use Rattle.plan_lines.proofs.LengthLaws.{length_stretch_lines, length_feed_lines_words}
 
 -- the plan that the arrays stand for; past the sheet's rations the words have no bits
 unfoldable pub plan_of : (slots blowers wake : ℕ) → (counts numbers words : List ℕ) → Plan

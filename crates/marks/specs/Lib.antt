@@ -3,9 +3,5 @@
 pub mod Marks
 pub mod Counts
 -- That the marks in a window are the difference of two counts
-pub mod Theorems
 -- What the functions within the crate require, and the steps of their loops
-pub mod CountLaws
 pub mod Parts
-pub mod EveryLaws
-pub mod MarkSteps

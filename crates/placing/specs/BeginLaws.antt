@@ -19,14 +19,14 @@ use Rattle.loads.specs.StartLaws.{relieved_state, relieved_critical, relieved_no
 use Rattle.common.specs.Tests.{false_of_not_true}
 use Rattle.checks.specs.Limits.{max_slots, max_rations}
 use Rattle.theory.specs.SumsOver.{on_cong}
-use Rattle.theory.specs.Critical.{critical_highs}
+use Rattle.theory.proofs.Critical.{critical_highs}
 use Rattle.schedules.specs.Schedules.{Demand, volume_of, feasible}
 use Rattle.schedules.specs.Shortfall.{forced, critical_set}
-use Rattle.schedules.specs.FeasibleLaws.{feasible_sound}
-use Rattle.schedules.specs.CriticalLaws.{critical_as}
+use Rattle.schedules.proofs.FeasibleLaws.{feasible_sound}
+use Rattle.schedules.proofs.CriticalLaws.{critical_as}
 use Rattle.schedules.specs.Tabulate.{tab}
 use Rattle.schedules.specs.AsFunctions.{free, sound_bounded}
-use Rattle.schedules.specs.Certificates.{closed_forced}
+use Rattle.schedules.proofs.Certificates.{closed_forced}
 use Rattle.placing.specs.Represents.{Represents, DemandWords, HighWords, Begun, Holds, BegunAgain, marks_of, marked_loads}
 use Rattle.placing.specs.StepLaws.{state_bounds, represents_feasible}
 

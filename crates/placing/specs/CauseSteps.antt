@@ -7,8 +7,8 @@ use Rattle.std.proofs.lemmas.Bool.{false≢true}
 use Rattle.std.proofs.Math.Decide.{ℕ_discrete}
 use Rattle.common.specs.Bits.{bit, bit_le, bit_none, add_same, add_other}
 use Rattle.theory.specs.SumsOver.{pick}
-use Rattle.theory.specs.Critical.{critical_highs}
-use Rattle.theory.specs.Excess.{excess_lows}
+use Rattle.theory.proofs.Critical.{critical_highs}
+use Rattle.theory.proofs.Excess.{excess_lows}
 use Rattle.grid.specs.Grid.{at}
 use Rattle.loads.specs.Relief.{width, Lowered, Raised, ExcessMarked}
 use Rattle.loads.specs.Meaning.{State, seen_at, put, bit_at}
@@ -20,9 +20,9 @@ use Rattle.schedules.specs.Shortfall.{critical_set}
 use Rattle.schedules.specs.Causes.{obstacle, excess_set}
 use Rattle.schedules.specs.Tabulate.{tab}
 use Rattle.schedules.specs.AsFunctions.{free, bound}
-use Rattle.schedules.specs.CriticalLaws.{critical_as}
-use Rattle.schedules.specs.CauseLaws.{tab_cong, excess_as, obstacle_crossed, crossed_lowest, shortfall_obstacle, excess_obstacle, feasible_ordered}
-use Rattle.schedules.specs.Certificates.{places_feasible, load_of}
+use Rattle.schedules.proofs.CriticalLaws.{critical_as}
+use Rattle.schedules.proofs.CauseLaws.{tab_cong, excess_as, obstacle_crossed, crossed_lowest, shortfall_obstacle, excess_obstacle, feasible_ordered}
+use Rattle.schedules.proofs.Certificates.{places_feasible, load_of}
 use Rattle.placing.specs.declared.Cause.{Cause}
 use Rattle.placing.specs.declared.Cause.TheVariants.{LowAboveHigh, Shortfall, Excess}
 use Rattle.placing.specs.declared.Answer.TheVariants.{Yes, No}

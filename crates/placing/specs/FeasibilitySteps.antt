@@ -11,7 +11,7 @@ use Rattle.theory.specs.Placing.{size}
 use Rattle.loads.specs.First.{CanStart}
 use Rattle.loads.specs.StartLaws.{given_start}
 use Rattle.schedules.specs.Schedules.{Demand, window_of, volume_of, AtMost, feasible}
-use Rattle.schedules.specs.Theorems.{infeasible_tighter}
+use Rattle.schedules.proofs.Theorems.{infeasible_tighter}
 use Rattle.schedules.specs.AsFunctions.{free, bound}
 use Rattle.schedules.specs.Tabulate.{count_size}
 use Rattle.placing.specs.Rations.{Rations, demands_from}

@@ -12,13 +12,13 @@ use Rattle.sheet.specs.Calls.{accepted}
 use Rattle.checks.specs.RangeLaws.{ValuesInRange}
 use Rattle.checks.specs.NumbersLaws.{length_numbers_of, numbers_of_at}
 use Rattle.sheet.specs.OwnChecks.{ReadFrom}
-use Rattle.sheet.specs.OwnCheckLaws.{read_is, read_values}
+use Rattle.sheet.proofs.OwnCheckLaws.{read_is, read_values}
 use Rattle.common.specs.BufferLaws.{length_padded}
 use Rattle.schedules.specs.Schedules.{no_demand}
 use Rattle.schedules.specs.Demands.{demand_of, demands_of}
 use Rattle.placing.specs.Rations.{demand_at, demands_from, Rations}
 use Rattle.schedules.specs.Tabulate.{tab_unique}
-use Rattle.schedules.specs.DemandLaws.{no_job, length_demands_of, demands_of_at, jobs_in_range_at}
+use Rattle.schedules.proofs.DemandLaws.{no_job, length_demands_of, demands_of_at, jobs_in_range_at}
 
 -- Accepted --------------------------------------------------------------------
 

@@ -13,7 +13,7 @@ use Rattle.placing.specs.Rations.{release_at, deadline_at, volume_at, demands_fr
 use Rattle.placing.specs.Words.{WindowWords, VolumeBytes, in_window, CanMark, Added, Marked}
 use Rattle.placing.specs.RationLaws.{length_demands_from, window_of_demands_from, volume_of_demands_from}
 use Rattle.common.specs.FillLaws.{get_d_zeros, FilledTo}
-use Rattle.schedules.specs.WindowLaws.{has_window}
+use Rattle.schedules.proofs.WindowLaws.{has_window}
 
 -- One window --------------------------------------------------------------------
 

@@ -10,7 +10,7 @@ use Rattle.schedules.specs.Slots.{has}
 use Rattle.schedules.specs.Schedules.{Demand, window_of}
 use Rattle.placing.specs.Rations.{release_at, deadline_at, demands_from, Rations}
 use Rattle.placing.specs.Words.{WindowWords, VolumeBytes, in_window}
-use Rattle.schedules.specs.WindowLaws.{has_window}
+use Rattle.schedules.proofs.WindowLaws.{has_window}
 use Rattle.placing.specs.RationLaws.{length_demands_from, window_of_demands_from, volume_of_demands_from}
 
 -- a word below 2 ^ n without a bit below n is 0

@@ -5,11 +5,9 @@ pub mod Text
 pub mod PlacingForms
 pub mod Inputs
 -- The words and the byte grid of one placing mark the same feedings
-pub mod PlacingFormLaws
 -- What the functions within the crate require and ensure, and the steps of their loops
 pub mod Putting
 pub mod SetBits
 pub mod FeedLaws
-pub mod LengthLaws
 pub mod StretchSteps
 pub mod FeedSteps

@@ -10,7 +10,7 @@ use Rattle.plan_order.specs.declared.Order.{Order}
 use Rattle.plan_order.specs.declared.Order.TheVariants.{Same}
 use Rattle.plan_order.specs.Order.{order_of_numbers, then_by, order_of_tanks, order_of_slots}
 use Rattle.plan_order.specs.Clauses.{differs, tanks_of_word, tanks_of_words}
-use Rattle.plan_order.specs.OrderLaws.{same_of, then_differs, numbers_ordered, places_same, first_differs}
+use Rattle.plan_order.proofs.OrderLaws.{same_of, then_differs, numbers_ordered, places_same, first_differs}
 
 -- the first t slots have the same lists
 abbrev pub SameBefore : (t : ℕ) → (numbers fed others fed' : List ℕ) → Type 0

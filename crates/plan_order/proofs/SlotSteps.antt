@@ -14,7 +14,7 @@ use Rattle.plan_order.specs.declared.Order.{Order}
 use Rattle.plan_order.specs.declared.Order.TheVariants.{Same, Before, After}
 use Rattle.plan_order.specs.Order.{order_of_numbers, then_by, order_of_lists, order_of_tanks}
 use Rattle.plan_order.specs.Clauses.{differs, tanks_of_word}
-use Rattle.plan_order.specs.OrderLaws.{same_of, then_differs}
+use Rattle.plan_order.proofs.OrderLaws.{same_of, then_differs}
 
 -- the tanks of the bits taken so far are the same, and `rest` and `other_rest` have the others
 pub record Comparing (numbers others : List ℕ) (word other rest other_rest : ℕ) : Type 0 where

@@ -18,8 +18,8 @@ use Rattle.listing.specs.Opening.{Written}
 use Rattle.planning.specs.declared.Planned.{Planned}
 use Rattle.planning.specs.Problem.{alone, listing_of}
 use Rattle.planning.specs.Planning.{plan_refusal, short_plan, listed_answer, listing_after, writes}
-use Rattle.planning.specs.CallAnswers.{room_plan, writes_nothing}
-use Rattle.planning.specs.WrittenLaws.{writes_held}
+use Rattle.planning.proofs.CallAnswers.{room_plan, writes_nothing}
+use Rattle.planning.proofs.WrittenLaws.{writes_held}
 use Rattle.cause_lines.specs.Entries.{entries_text, fitting, causes_text}
 use Rattle.cause_lines.specs.FittingLaws.{fitting_within}
 use Rattle.causes.specs.declared.CausesAnswer.{CausesAnswer}

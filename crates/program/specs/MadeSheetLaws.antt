@@ -11,7 +11,7 @@ use Rattle.checks.specs.SheetLaws.{length_write_sheet}
 use Rattle.sheet.specs.declared.Written.{Written as SheetWritten}
 use Rattle.sheet.specs.Calls.{written_of, buffer_after}
 use Rattle.practice.specs.Practice.{faulty_seed, seed_in, practice_sheet, practice_bytes, practice_refusal}
-use Rattle.practice.specs.PracticeLaws.{practice_room, practice_longest}
+use Rattle.practice.proofs.PracticeLaws.{practice_room, practice_longest}
 use Rattle.plan_lines.specs.Text.{refusal_text}
 use Rattle.listing.specs.Opening.{Written, length_refusal_text}
 use Rattle.program.specs.declared.MadeSheet.{MadeSheet}

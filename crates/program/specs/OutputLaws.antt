@@ -10,19 +10,19 @@ use Rattle.checks.specs.Sheet.{sheet_of}
 use Rattle.checks.specs.Checks.{faults}
 use Rattle.sheet.specs.Calls.{reading_of}
 use Rattle.common.specs.Buffers.{padded, over}
-use Rattle.sheet.specs.CallLaws.{faults_reading_of}
+use Rattle.sheet.proofs.CallLaws.{faults_reading_of}
 use Rattle.common.specs.BufferLaws.{length_padded}
 use Rattle.checks.specs.WellFormedLaws.{well_formed_faults}
-use Rattle.sheet.specs.OwnCheckLaws.{bytes_read, refused_before, not_held}
+use Rattle.sheet.proofs.OwnCheckLaws.{bytes_read, refused_before, not_held}
 use Rattle.plan_lines.specs.Sizes.{plan_bytes}
 use Rattle.plan_lines.specs.Text.{refusal_text}
 use Rattle.listing.specs.Opening.{Written, length_refusal_text}
 use Rattle.planning.specs.declared.Planned.{Planned}
 use Rattle.planning.specs.Problem.{alone, listing_of}
 use Rattle.planning.specs.Planning.{held_faults, plan_refusal, short_plan, writes, listed_answer, listing_after}
-use Rattle.planning.specs.CallAnswers.{room_plan, writes_nothing}
-use Rattle.planning.specs.ProblemLaws.{length_listing}
-use Rattle.planning.specs.AloneLaws.{alone_in_range}
+use Rattle.planning.proofs.CallAnswers.{room_plan, writes_nothing}
+use Rattle.planning.proofs.ProblemLaws.{length_listing}
+use Rattle.planning.proofs.AloneLaws.{alone_in_range}
 use Rattle.program.specs.declared.Output.{Output}
 use Rattle.program.specs.Program.{output, output_of}
 

@@ -14,20 +14,20 @@ use Rattle.checks.specs.Limits.{max_bytes}
 use Rattle.checks.specs.Refusals.{bad_form, short_buffer, no_placing}
 use Rattle.checks.specs.Sheet.{sheet_of, write_sheet}
 use Rattle.checks.specs.Checks.{first_refusal, outside, length_faults, faults}
-use Rattle.sheet.specs.FirstRefusalLaws.{first_fault, first_append}
-use Rattle.sheet.specs.Theorems.{refusal_most}
+use Rattle.sheet.proofs.FirstRefusalLaws.{first_fault, first_append}
+use Rattle.sheet.proofs.Theorems.{refusal_most}
 use Rattle.common.specs.Buffers.{padded}
 use Rattle.plan_lines.specs.Sizes.{plan_bytes}
 use Rattle.plan_lines.specs.Lines.{line}
 use Rattle.plan_lines.specs.Text.{held_word, refusal_text}
 use Rattle.planning.specs.Problem.{Problem, alone, can_be_planned, listing_of}
 use Rattle.planning.specs.Planning.{plan_refusal, listed_answer, listing_after, writes}
-use Rattle.planning.specs.WrittenLaws.{number_planned, number_held, writes_planned, writes_held, listing_written}
+use Rattle.planning.proofs.WrittenLaws.{number_planned, number_held, writes_planned, writes_held, listing_written}
 use Rattle.planning.specs.ReadListing.{written}
-use Rattle.planning.specs.ReadLaws.{FitsLine, FitLines}
-use Rattle.planning.specs.Theorems.{ReadsAs, reads_as}
+use Rattle.planning.proofs.ReadLaws.{FitsLine, FitLines}
+use Rattle.planning.proofs.Theorems.{ReadsAs, reads_as}
 use Rattle.practice.specs.Practice.{practice_sheet, seed_input, seed_in, max_seed, faulty_seed}
-use Rattle.practice.specs.SeedLaws.{seed_fine, seed_is, seed_there}
+use Rattle.practice.proofs.SeedLaws.{seed_fine, seed_is, seed_there}
 use Rattle.program.specs.Program.{output, output_of, seed_output, made_sheet_of}
 use Rattle.program.specs.OutputLaws.{length_output}
 

@@ -15,7 +15,7 @@ use Rattle.checks.specs.Sheet.{Sheet}
 use Rattle.checks.specs.Checks.{fault, first_refusal}
 use Rattle.common.specs.Buffers.{padded}
 use Rattle.sheet.specs.OwnChecks.{ReadFrom}
-use Rattle.sheet.specs.OwnCheckLaws.{refused_before, accepted_before}
+use Rattle.sheet.proofs.OwnCheckLaws.{refused_before, accepted_before}
 use Rattle.common.specs.Tests.{or_false, false_of_not_true}
 use Rattle.common.specs.BufferLaws.{length_padded}
 use Rattle.schedules.specs.Schedules.{Demand, Windows, at_most, feasible}
@@ -28,10 +28,10 @@ use Rattle.placing.specs.FeasibilityParts.{CanAsk, WordsAnswered}
 use Rattle.placing.specs.FeasibilitySteps.{demand_words, ration_words}
 use Rattle.questions.specs.BoundsParts.{SmallLows}
 use Rattle.schedules.specs.Tabulate.{get_d_map_below, length_zip_with, get_d_zip_with, at_most_at, at_at_most}
-use Rattle.schedules.specs.FeasibleLaws.{feasible_sound}
-use Rattle.schedules.specs.DemandLaws.{windows_demands_of}
+use Rattle.schedules.proofs.FeasibleLaws.{feasible_sound}
+use Rattle.schedules.proofs.DemandLaws.{windows_demands_of}
 use Rattle.placing.specs.ReadLaws.{SheetRead, sheet_read_lem}
-use Rattle.marks.specs.EveryLaws.{every_miss, every_hit, every_end}
+use Rattle.marks.proofs.EveryLaws.{every_miss, every_hit, every_end}
 use Rattle.common.specs.FillLaws.{FilledTo, filled_end, get_d_padded, padded_past, take_padded}
 
 -- The highs, cut ------------------------------------------------------------------

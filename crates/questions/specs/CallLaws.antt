@@ -15,15 +15,15 @@ use Rattle.checks.specs.Sheet.{Sheet}
 use Rattle.checks.specs.Checks.{fault}
 use Rattle.checks.specs.FaultLaws.{numbered_append, numbered_fault, append_nil_parts, false_fault}
 use Rattle.sheet.specs.OwnChecks.{OwnChecks}
-use Rattle.sheet.specs.OwnCheckLaws.{bytes_checked}
+use Rattle.sheet.proofs.OwnCheckLaws.{bytes_checked}
 use Rattle.schedules.specs.Schedules.{feasible}
 use Rattle.schedules.specs.Demands.{demands_of, no_low, full_high}
 use Rattle.questions.specs.Calls.{marks_refusal, sheet_shortfall, shortfall_for, shortfall_of}
 use Rattle.marks.specs.Marks.{marked, marks_fault}
-use Rattle.schedules.specs.Theorems.{shortfall_of_day}
-use Rattle.schedules.specs.DemandLaws.{windows_demands_of, demands_of_in_range}
-use Rattle.schedules.specs.FeasibleLaws.{feasible_sound, sound_no_obstacle}
-use Rattle.marks.specs.CountLaws.{accepted_long, length_marked}
+use Rattle.schedules.proofs.Theorems.{shortfall_of_day}
+use Rattle.schedules.proofs.DemandLaws.{windows_demands_of, demands_of_in_range}
+use Rattle.schedules.proofs.FeasibleLaws.{feasible_sound, sound_no_obstacle}
+use Rattle.marks.proofs.CountLaws.{accepted_long, length_marked}
 
 module _ {own : List Refusal} {s : Sheet} (checks : OwnChecks own s) (marks : List ℕ) where
   -- number 0 stands for a sheet without a fault and one mark for each slot

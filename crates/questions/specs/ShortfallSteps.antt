@@ -13,7 +13,7 @@ use Rattle.checks.specs.Refusals.{bad_list}
 use Rattle.checks.specs.Sheet.{Sheet}
 use Rattle.checks.specs.Checks.{fault, first_refusal}
 use Rattle.sheet.specs.OwnChecks.{ReadFrom}
-use Rattle.sheet.specs.OwnCheckLaws.{refused_before, accepted_before}
+use Rattle.sheet.proofs.OwnCheckLaws.{refused_before, accepted_before}
 use Rattle.theory.specs.Sums.{sum, sum_next, sum_cong, sum_le_mul}
 use Rattle.schedules.specs.Slots.{Slots, outside, sum_over}
 use Rattle.schedules.specs.Schedules.{no_demand, window_of, volume_of}
@@ -27,7 +27,7 @@ use Rattle.questions.specs.ShortfallParts.{forced_at, forced_by, CanForce}
 use Rattle.schedules.specs.Tabulate.{sum_map}
 use Rattle.placing.specs.ReadLaws.{SheetRead, sheet_read_lem}
 use Rattle.placing.specs.RationLaws.{volume_small, length_demands_from, demands_from_at}
-use Rattle.marks.specs.CountLaws.{accepted_long, length_marked, length_counts_before, counts_before_all, counts_window, window_parts, outside_unmarked_in}
+use Rattle.marks.proofs.CountLaws.{accepted_long, length_marked, length_counts_before, counts_before_all, counts_window, window_parts, outside_unmarked_in}
 
 -- forced(Q) -----------------------------------------------------------------------
 

@@ -17,9 +17,9 @@ use Rattle.checks.specs.FaultLaws.{numbered_head_faults}
 use Rattle.checks.specs.RangeLaws.{in_range_head_faults}
 use Rattle.checks.specs.Parts.{head}
 use Rattle.checks.specs.CheckSteps.{first_left}
-use Rattle.sheet.specs.ReadSteps.{from_refused}
+use Rattle.sheet.proofs.ReadSteps.{from_refused}
 use Rattle.sheet.specs.OwnChecks.{ReadFrom, SomeReading}
-use Rattle.sheet.specs.OwnCheckLaws.{values_checked}
+use Rattle.sheet.proofs.OwnCheckLaws.{values_checked}
 use Rattle.records.specs.declared.Ration.{Ration}
 use Rattle.records.specs.declared.Flat.{Flat}
 use Rattle.records.specs.Records.{job_of, record_faults, record_sheet, taken_most}

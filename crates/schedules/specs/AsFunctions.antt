@@ -14,9 +14,9 @@ use Rattle.theory.specs.Sums.{sum, sum_cong, sum_head}
 use Rattle.theory.specs.SumsOver.{one, pick, sum_on, on_cong}
 use Rattle.theory.specs.Placing as F
 use Rattle.theory.specs.Placing.{size}
-use Rattle.theory.specs.Row.{inside_is, outside_is}
-use Rattle.theory.specs.Volumes.{forced_cong, possible_cong}
-use Rattle.theory.specs.Bounds.{Bounded}
+use Rattle.theory.proofs.Row.{inside_is, outside_is}
+use Rattle.theory.proofs.Volumes.{forced_cong, possible_cong}
+use Rattle.theory.proofs.Bounds.{Bounded}
 use Rattle.schedules.specs.Slots.{Slots, has, inside, outside, sum_over}
 use Rattle.schedules.specs.Schedules.{Demand, Schedule, one_more, load, no_demand, window_of, volume_of, Chosen, Sound, Windows}
 use Rattle.schedules.specs.Shortfall.{forced, possible}

@@ -12,16 +12,16 @@ use Rattle.checks.specs.Sheet.{Sheet, sheet_of}
 use Rattle.checks.specs.Checks.{fault, first_refusal, faults}
 use Rattle.sheet.specs.declared.Reading.{Reading}
 use Rattle.sheet.specs.OwnChecks.{ReadFrom, SomeReading, ReadSheet}
-use Rattle.sheet.specs.OwnCheckLaws.{refused_before, accepted_before, not_held}
+use Rattle.sheet.proofs.OwnCheckLaws.{refused_before, accepted_before, not_held}
 use Rattle.cuts.specs.Cuts.{max_share, cut_sheet, greatest_share}
-use Rattle.cuts.specs.Theorems.{share_most}
-use Rattle.cuts.specs.ReadLaws.{cut_read, cut_some}
+use Rattle.cuts.proofs.Theorems.{share_most}
+use Rattle.cuts.proofs.ReadLaws.{cut_read, cut_some}
 use Rattle.cuts.specs.Clauses.{CutFrom, ShareFound}
 use Rattle.planning.specs.declared.Planned.{Planned}
 use Rattle.planning.specs.Problem.{alone, listing_of, words_for}
 use Rattle.planning.specs.Planning.{plan_refusal_for, short_plan, short_placing, writes, listed_answer, listing_after, placing_after}
 use Rattle.planning.specs.Clauses.{ReadBoth}
-use Rattle.planning.specs.CallAnswers.{writes_nothing, listed_nothing, placed_nothing}
+use Rattle.planning.proofs.CallAnswers.{writes_nothing, listed_nothing, placed_nothing}
 use Rattle.shares.specs.declared.SharePlanned.{SharePlanned}
 use Rattle.shares.specs.Shares.{share_problem, share_refusal, share_answer}
 use Rattle.shares.specs.Theorems.{share_planned}

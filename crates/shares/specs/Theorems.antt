@@ -10,16 +10,16 @@ use Rattle.checks.specs.Refusals.{short_buffer, no_placing}
 use Rattle.checks.specs.Sheet.{Sheet, sheet_of}
 use Rattle.checks.specs.Checks.{fault, first_refusal, faults}
 use Rattle.checks.specs.RangeLaws.{ValuesInRange}
-use Rattle.sheet.specs.OwnCheckLaws.{bytes_checked}
+use Rattle.sheet.proofs.OwnCheckLaws.{bytes_checked}
 use Rattle.schedules.specs.Schedules.{Schedule, feasible}
 use Rattle.schedules.specs.Demands.{no_low}
 use Rattle.cuts.specs.Cuts.{max_share, cut_sheet, feasible_sheet, greatest_share}
-use Rattle.cuts.specs.ShareLaws.{cut_in_range, cut_whole_sheet}
-use Rattle.cuts.specs.Theorems.{share_most, greatest_possible, share_has, no_greater, whole_iff}
+use Rattle.cuts.proofs.ShareLaws.{cut_in_range, cut_whole_sheet}
+use Rattle.cuts.proofs.Theorems.{share_most, greatest_possible, share_has, no_greater, whole_iff}
 use Rattle.planning.specs.Problem.{alone, MayPlace, ProblemInRange, can_be_planned}
 use Rattle.planning.specs.Planning.{plan_checks}
-use Rattle.planning.specs.CallAnswers.{passed_held}
-use Rattle.planning.specs.AloneLaws.{left_alone, room_alone, may_alone, alone_in_range}
+use Rattle.planning.proofs.CallAnswers.{passed_held}
+use Rattle.planning.proofs.AloneLaws.{left_alone, room_alone, may_alone, alone_in_range}
 use Rattle.shares.specs.Shares.{share_problem, share_refusal}
 
 -- Any share -------------------------------------------------------------------------

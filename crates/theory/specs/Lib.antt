@@ -5,16 +5,3 @@
 pub mod Sums
 pub mod SumsOver
 pub mod Placing
-pub mod Row
-pub mod Volumes
-pub mod Closed
-pub mod Complement
-pub mod Move
-pub mod Edges
-pub mod Layers
-pub mod Augment
-pub mod Optimum
-pub mod Bounds
-pub mod LeastSet
-pub mod Critical
-pub mod Excess

@@ -5,7 +5,7 @@ use Prim.Native.Nat.{ℕ, ◌+◌, ◌-◌}
 use Rattle.placing.specs.Rations.{release_at, deadline_at, volume_at}
 use Rattle.placing.specs.Words.{Added}
 use Rattle.densities.specs.Densities.{density, density_of, CanAdd}
-use Rattle.densities.specs.DensityLaws.{sums_begin, sums_can, sums_next, sums_end}
+use Rattle.densities.proofs.DensityLaws.{sums_begin, sums_can, sums_next, sums_end}
 use native.Mathlib.Omega.{arith}
 use Rattle.densities.proofs.density_sums.Goals as goal
 

@@ -1,6 +1,6 @@
 -- `densities::greatest_density` meets its contract. Assumes nothing.
 use Prim.Native.Nat.{◌-◌}
-use Rattle.densities.specs.DensityLaws.{greatest_next, greatest_end}
+use Rattle.densities.proofs.DensityLaws.{greatest_next, greatest_end}
 use native.Mathlib.Omega.{arith}
 use Rattle.densities.proofs.greatest_density.Goals as goal
 

@@ -1,6 +1,6 @@
 -- `densities::greatest_density` meets its contract. Assumes nothing.
 use Prim.Native.Nat.{◌-◌}
-use Rattle.densities.specs.DensityLaws.{GreatestTo}
+use Rattle.densities.proofs.DensityLaws.{GreatestTo}
 use Rattle.densities.proofs.greatest_density.Given as goal
 
 abbrev pub invariant-loop-t : goal.invariant-loop-t

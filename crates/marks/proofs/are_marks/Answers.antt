@@ -1,7 +1,7 @@
 -- `marks::are_marks` meets its contract: what the marks from one on say of all, they say of all marks. Assumes nothing.
 use mathlib.Core.Path.{refl, sym, ◌∙◌}
 use Prim.Native.Nat.{◌-◌}
-use Rattle.marks.specs.MarkSteps.{marks_hit, marks_miss, marks_end}
+use Rattle.marks.proofs.MarkSteps.{marks_hit, marks_miss, marks_end}
 use native.Mathlib.Omega.{arith}
 use Rattle.marks.proofs.are_marks.Goals as goal
 

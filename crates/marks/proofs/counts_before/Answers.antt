@@ -4,7 +4,7 @@ use Prim.Native.Nat.{suc, ◌+◌, ◌-◌, ◌≤◌}
 use Rattle.checks.specs.Limits.{max_slots}
 use Rattle.common.specs.FillLaws.{filled_next}
 use Rattle.marks.specs.Counts.{marked_to}
-use Rattle.marks.specs.MarkSteps.{count_none, count_hit, count_miss, counts_begin, counts_end}
+use Rattle.marks.proofs.MarkSteps.{count_none, count_hit, count_miss, counts_begin, counts_end}
 use native.Mathlib.Omega.{arith}
 use Rattle.marks.proofs.counts_before.Goals as goal
 use Rattle.marks.proofs.counts_before.Goals.{then-marks-t-eq1, else-marks-t-eq1}

@@ -1,8 +1,8 @@
 -- `practice::write_practice` meets its contract: the numbers drawn are those of the sheet. Assumes nothing.
 use Rattle.std.proofs.Common.{◌%◌, refl}
 use Rattle.practice.specs.Practice.{practice_job}
-use Rattle.practice.specs.DrawLaws.{three_seeds, three_drawn}
-use Rattle.practice.specs.PracticeLaws.{front_numbers, drawn_written}
+use Rattle.practice.proofs.DrawLaws.{three_seeds, three_drawn}
+use Rattle.practice.proofs.PracticeLaws.{front_numbers, drawn_written}
 use Rattle.practice.proofs.write_practice.Goals as goal
 
 pub returns : goal.returns

@@ -1,6 +1,6 @@
 -- `program::answer` meets its contract. Assumes nothing.
-use Rattle.planning.specs.WrittenLaws.{writes_planned, writes_held}
-use Rattle.planning.specs.CallAnswers.{writes_nothing}
+use Rattle.planning.proofs.WrittenLaws.{writes_planned, writes_held}
+use Rattle.planning.proofs.CallAnswers.{writes_nothing}
 use Rattle.program.specs.OutputLaws.{output_listed, output_refused}
 use Rattle.program.proofs.answer.Goals as goal
 

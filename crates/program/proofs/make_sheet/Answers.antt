@@ -1,6 +1,6 @@
 -- `program::make_sheet` meets its contract. Assumes nothing.
 use mathlib.Core.Path.{sym, ◌∙◌}
-use Rattle.practice.specs.SeedLaws.{seed_length, seed_read}
+use Rattle.practice.proofs.SeedLaws.{seed_length, seed_read}
 use Rattle.program.specs.MadeSheetLaws.{made_refused, made_written}
 use native.Mathlib.Omega.{arith}
 use Rattle.program.proofs.make_sheet.Goals as goal

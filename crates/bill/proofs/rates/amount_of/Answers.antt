@@ -1,5 +1,5 @@
 -- `bill::rates::amount_of` meets its contract. Assumes nothing.
-use Rattle.bill.specs.AmountLaws.{amount_of_split}
+use Rattle.bill.proofs.AmountLaws.{amount_of_split}
 use Rattle.bill.proofs.rates.amount_of.Goals as goal
 
 pub returns : goal.returns

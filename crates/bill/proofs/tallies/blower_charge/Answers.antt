@@ -2,7 +2,7 @@
 use Prim.Native.Nat.{◌-◌}
 use native.Mathlib.Omega.{arith}
 use Rattle.energy.specs.StretchLaws.{found}
-use Rattle.bill.specs.TallySteps.{tallied_to_begin, tallied_to_can, tallied_to_more, tallied_to_end}
+use Rattle.bill.proofs.TallySteps.{tallied_to_begin, tallied_to_can, tallied_to_more, tallied_to_end}
 use Rattle.bill.proofs.tallies.blower_charge.Goals as goal
 
 pub loop-from-init : goal.loop-from-init

@@ -1,6 +1,6 @@
 -- `bill::tallies::blower_charge` meets its contract. What is in the tally before a stretch, with what is left, is all. Assumes nothing.
 use Prim.Native.Nat.{◌-◌}
-use Rattle.bill.specs.TallySteps.{TalliedTo}
+use Rattle.bill.proofs.TallySteps.{TalliedTo}
 use Rattle.bill.proofs.tallies.blower_charge.Given as goal
 
 abbrev pub invariant-loop-from : goal.invariant-loop-from

@@ -1,7 +1,7 @@
 -- `bill::tallies::day_charge` meets its contract. The sum is the charge of the blowers passed. Assumes nothing.
 use Prim.Native.Nat.{◌-◌}
 use native.Mathlib.Omega.{arith}
-use Rattle.bill.specs.TallySteps.{charged_by_begin, charged_by_more, charged_by_le, charged_by_end}
+use Rattle.bill.proofs.TallySteps.{charged_by_begin, charged_by_more, charged_by_le, charged_by_end}
 use Rattle.bill.proofs.tallies.day_charge.Goals as goal
 
 pub loop-done-init : goal.loop-done-init

@@ -1,6 +1,6 @@
 -- `bill::tallies::day_charge` meets its contract. The sum is the charge of the blowers passed. Assumes nothing.
 use Prim.Native.Nat.{◌-◌}
-use Rattle.bill.specs.TallySteps.{ChargedBy}
+use Rattle.bill.proofs.TallySteps.{ChargedBy}
 use Rattle.bill.proofs.tallies.day_charge.Given as goal
 
 abbrev pub invariant-loop-done : goal.invariant-loop-done

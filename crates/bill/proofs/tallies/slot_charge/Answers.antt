@@ -1,6 +1,6 @@
 -- `bill::tallies::slot_charge` meets its contract. Assumes nothing.
 use native.Mathlib.Omega.{arith}
-use Rattle.bill.specs.TallyLaws.{slot_charge_off, slot_charge_on, slot_charge_start, start_le}
+use Rattle.bill.proofs.TallyLaws.{slot_charge_off, slot_charge_on, slot_charge_start, start_le}
 use Rattle.bill.proofs.tallies.slot_charge.Goals as goal
 
 pub returns-then-state-eq0 : goal.returns-then-state-eq0

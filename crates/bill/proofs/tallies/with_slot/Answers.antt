@@ -1,7 +1,7 @@
 -- `bill::tallies::with_slot` meets its contract. Assumes nothing.
 use native.Mathlib.Omega.{arith}
 use Rattle.bill.specs.Tally.{with_slot}
-use Rattle.bill.specs.TallyLaws.{slot_charge_le}
+use Rattle.bill.proofs.TallyLaws.{slot_charge_le}
 use Rattle.bill.proofs.tallies.with_slot.Goals as goal
 
 pub overflow_add-result : goal.overflow_add-result

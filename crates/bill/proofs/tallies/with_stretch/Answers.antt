@@ -1,6 +1,6 @@
 -- `bill::tallies::with_stretch` meets its contract: what the loop adds up is `SlotsTo`. Assumes nothing.
 use Rattle.std.proofs.Common.{arith}
-use Rattle.bill.specs.TallySteps.{slots_to_begin, slots_to_can, slots_to_more, slots_to_end}
+use Rattle.bill.proofs.TallySteps.{slots_to_begin, slots_to_can, slots_to_more, slots_to_end}
 use Rattle.bill.proofs.tallies.with_stretch.Goals as goal
 
 pub loop-at-init : goal.loop-at-init

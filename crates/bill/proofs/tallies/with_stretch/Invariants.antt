@@ -1,6 +1,6 @@
 -- The slots of the stretch up to `at` are in the running tally.
 use Rattle.std.proofs.Common.{◌-◌}
-use Rattle.bill.specs.TallySteps.{SlotsTo}
+use Rattle.bill.proofs.TallySteps.{SlotsTo}
 use Rattle.bill.proofs.tallies.with_stretch.Given as goal
 
 abbrev pub invariant-loop-at : goal.invariant-loop-at

@@ -1,7 +1,7 @@
 -- `causes::calls::list_causes` meets its contract. Assumes nothing.
 use mathlib.Core.Path.{◌∙◌}
 use native.Mathlib.Omega.{arith}
-use Rattle.sheet.specs.OwnCheckLaws.{bytes_read}
+use Rattle.sheet.proofs.OwnCheckLaws.{bytes_read}
 use Rattle.placing.specs.ReadLaws.{sheet_read_lem}
 use Rattle.planning.specs.Planning.{plan_refusal}
 use Rattle.causes.specs.CauseCalls.{short_causes}

@@ -1,6 +1,6 @@
 -- `comparison::comparing::compare` meets its contract. Assumes nothing.
 use mathlib.Core.Path.{ap, ◌∙◌}
-use Rattle.sheet.specs.OwnCheckLaws.{bytes_read}
+use Rattle.sheet.proofs.OwnCheckLaws.{bytes_read}
 use Rattle.plan_order.specs.Order.{order_number}
 use Rattle.comparison.proofs.CompareSteps.{compare_first, compare_first_held, compare_second, compare_second_held, compare_days, days_can, days_order}
 use Rattle.comparison.proofs.comparing.compare.Goals as goal

@@ -4,7 +4,7 @@ use mir.Syntax.{w32}
 use mir.Facts.{to_z-of_z}
 use lib.IntN.{pos}
 use lib.Signed.{lt_z}
-use Rattle.cuts.specs.ReadLaws.{cut_some}
+use Rattle.cuts.proofs.ReadLaws.{cut_some}
 use Rattle.cuts.proofs.SearchSteps.{deficient_none}
 use Rattle.cuts.proofs.search.is_deficient.Goals as goal
 

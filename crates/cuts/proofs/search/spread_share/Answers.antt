@@ -1,7 +1,7 @@
 -- `cuts::search::spread_share` meets its contract. Assumes nothing.
 use Rattle.placing.specs.RationLaws.{rations_longest}
 use Rattle.cuts.specs.Cuts.{max_share}
-use Rattle.cuts.specs.SpreadShareLaws.{spread_placing}
+use Rattle.cuts.proofs.SpreadShareLaws.{spread_placing}
 use Rattle.cuts.proofs.SearchSteps.{sheet_rations, few_blowers, share_of}
 use native.Mathlib.Omega.{arith}
 use Rattle.cuts.proofs.search.spread_share.Goals as goal

@@ -1,5 +1,5 @@
 -- `endings::settling::keep_or_cause` meets its contract. Assumes nothing.
-use Rattle.stretches.specs.SettlingLaws.{slot_ready}
+use Rattle.stretches.proofs.SettlingLaws.{slot_ready}
 use Rattle.endings.specs.StepLaws.{answered_idle, answered_busy}
 use Rattle.endings.proofs.settling.keep_or_cause.Goals as goal
 

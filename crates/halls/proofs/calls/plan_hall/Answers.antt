@@ -1,8 +1,8 @@
 -- `halls::calls::plan_hall` meets its contract. Assumes nothing.
-use Rattle.sheet.specs.OwnCheckLaws.{bytes_read, read_small}
+use Rattle.sheet.proofs.OwnCheckLaws.{bytes_read, read_small}
 use Rattle.halls.specs.Halls.{lent}
-use Rattle.halls.specs.HallLaws.{can_add}
-use Rattle.halls.specs.CallLaws.{highs_of_hall, busy_is, hall_done}
+use Rattle.halls.proofs.HallLaws.{can_add}
+use Rattle.halls.proofs.CallLaws.{highs_of_hall, busy_is, hall_done}
 use native.Mathlib.Omega.{arith}
 use Rattle.halls.proofs.calls.plan_hall.Goals as goal
 

@@ -1,5 +1,5 @@
 -- `halls::calls::plan_hall_if` meets its contract. Assumes nothing.
-use Rattle.halls.specs.CallLaws.{done_there, done_none}
+use Rattle.halls.proofs.CallLaws.{done_there, done_none}
 use Rattle.halls.proofs.calls.plan_hall_if.Goals as goal
 
 pub plan_hall-requires : goal.plan_hall-requires

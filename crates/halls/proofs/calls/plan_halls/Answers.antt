@@ -2,8 +2,8 @@
 use mathlib.Core.Path.{◌≡◌, sym, ap, ◌∙◌}
 use Prim.Native.Nat.{ℕ}
 use Rattle.halls.specs.Halls.{Hall, Buffers, lent, four, nothing, halls_refusal, outcome_of}
-use Rattle.halls.specs.HallLaws.{none_used_lem}
-use Rattle.halls.specs.CallLaws.{halls_in_range, refused_outcome, refused_answer, after_hall, after_hall_if, buffers₁, buffers₂, buffers₃, buffers₄, planned_answer}
+use Rattle.halls.proofs.HallLaws.{none_used_lem}
+use Rattle.halls.proofs.CallLaws.{halls_in_range, refused_outcome, refused_answer, after_hall, after_hall_if, buffers₁, buffers₂, buffers₃, buffers₄, planned_answer}
 use native.Mathlib.Omega.{arith}
 use Rattle.std.proofs.Common.{rules}
 use Rattle.halls.proofs.calls.plan_halls.Goals as goal

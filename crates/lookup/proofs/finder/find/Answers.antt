@@ -1,5 +1,5 @@
 -- `lookup::finder::find` meets its contract. Assumes nothing.
-use Rattle.lookup.specs.FindSteps.{placed_within, placed_begins}
+use Rattle.lookup.proofs.FindSteps.{placed_within, placed_begins}
 use native.Mathlib.Omega.{arith}
 use Rattle.lookup.proofs.finder.find.Goals as goal
 

@@ -2,8 +2,8 @@
 use mathlib.Core.Path.{◌≡◌, refl, sym, ◌∙◌}
 use Prim.Native.Nat.{◌*◌, ◌-◌}
 use Rattle.line.specs.Layout.{line_bytes}
-use Rattle.sheet.specs.LineSteps.{value_place}
-use Rattle.lookup.specs.FindSteps.{after_end, after_hit, after_miss}
+use Rattle.sheet.proofs.LineSteps.{value_place}
+use Rattle.lookup.proofs.FindSteps.{after_end, after_hit, after_miss}
 use native.Mathlib.Omega.{arith}
 use Rattle.lookup.proofs.finder.line_after.Goals as goal
 

@@ -2,7 +2,7 @@
 use mathlib.Core.Path.{refl, ap, ◌∙◌}
 use Rattle.checks.specs.Sheet.{line_count}
 use Rattle.checks.specs.WellFormedLaws.{well_formed_faults}
-use Rattle.lookup.specs.FindSteps.{read_faults, place_unread, between, place_none, place_some, placed}
+use Rattle.lookup.proofs.FindSteps.{read_faults, place_unread, between, place_none, place_some, placed}
 use native.Mathlib.Omega.{arith}
 use Rattle.lookup.proofs.finder.place.Goals as goal
 

@@ -1,7 +1,7 @@
 -- `plan_order::numbers::order_of_numbers` meets its contract. Assumes nothing.
 use mathlib.Core.Path.{sym}
 use native.Mathlib.Omega.{arith}
-use Rattle.plan_order.specs.OrderLaws.{numbers_before, numbers_after, numbers_same}
+use Rattle.plan_order.proofs.OrderLaws.{numbers_before, numbers_after, numbers_same}
 use Rattle.plan_order.proofs.numbers.order_of_numbers.Goals as goal
 
 pub returns-then-x-y : goal.returns-then-x-y

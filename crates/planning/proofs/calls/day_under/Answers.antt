@@ -1,6 +1,6 @@
 -- `planning::calls::day_under` meets its contract. Assumes nothing.
 use Rattle.placing.specs.ReadLaws.{sheet_read_lem}
-use Rattle.planning.specs.DayLaws.{day_under}
+use Rattle.planning.proofs.DayLaws.{day_under}
 use native.Mathlib.Omega.{arith}
 use Rattle.planning.proofs.calls.day_under.Goals as goal
 

@@ -1,5 +1,5 @@
 -- `planning::calls::list_day` meets its contract. Assumes nothing.
-use Rattle.planning.specs.DayLaws.{plan_can, plan_written, held_can, held_written}
+use Rattle.planning.proofs.DayLaws.{plan_can, plan_written, held_can, held_written}
 use Rattle.planning.proofs.calls.list_day.Goals as goal
 
 pub put_held-requires : goal.put_held-requires

@@ -1,5 +1,5 @@
 -- `planning::calls::plan` meets its contract. Assumes nothing.
-use Rattle.sheet.specs.OwnCheckLaws.{bytes_read}
+use Rattle.sheet.proofs.OwnCheckLaws.{bytes_read}
 use Rattle.planning.specs.Planning.{plan_refusal}
 use Rattle.planning.proofs.calls.plan.Goals as goal
 

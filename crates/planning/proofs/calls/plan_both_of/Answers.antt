@@ -1,7 +1,7 @@
 -- `planning::calls::plan_both_of` meets its contract. Assumes nothing.
 use Rattle.schedules.specs.Demands.{full_high}
-use Rattle.sheet.specs.OwnCheckLaws.{read_small}
-use Rattle.planning.specs.DayLaws.{highs_full, highs_alone}
+use Rattle.sheet.proofs.OwnCheckLaws.{read_small}
+use Rattle.planning.proofs.DayLaws.{highs_full, highs_alone}
 use Rattle.planning.proofs.calls.plan_both_of.Goals as goal
 
 pub full_highs-highs-requires : goal.full_highs-highs-requires

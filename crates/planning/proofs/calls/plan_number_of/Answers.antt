@@ -2,7 +2,7 @@
 use mathlib.Core.Path.{refl, ◌∙◌}
 use mathlib.Core.Bool.{false}
 use Rattle.planning.specs.Problem.{alone}
-use Rattle.planning.specs.CallAnswers.{unlisted_read, unlisted_day}
+use Rattle.planning.proofs.CallAnswers.{unlisted_read, unlisted_day}
 use Rattle.planning.proofs.calls.plan_number_of.Goals as goal
 
 pub returns-then-sheet-ne0 : goal.returns-then-sheet-ne0

@@ -2,7 +2,7 @@
 use mathlib.Core.Path.{◌∙◌}
 use Rattle.planning.specs.Problem.{alone, listing_of}
 use Rattle.planning.specs.Planning.{short_plan}
-use Rattle.planning.specs.CallAnswers.{short_plan_lem, room_plan, listed_read, listed_short, listed_day}
+use Rattle.planning.proofs.CallAnswers.{short_plan_lem, room_plan, listed_read, listed_short, listed_day}
 use Rattle.planning.proofs.calls.plan_of.Goals as goal
 
 pub returns-then-sheet-ne0 : goal.returns-then-sheet-ne0

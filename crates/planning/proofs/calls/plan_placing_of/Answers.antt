@@ -2,8 +2,8 @@
 use mathlib.Core.Path.{◌∙◌}
 use Rattle.planning.specs.Problem.{alone, words_for}
 use Rattle.planning.specs.Planning.{short_placing}
-use Rattle.planning.specs.DayLaws.{fed_long, words_written}
-use Rattle.planning.specs.CallAnswers.{tested_placing, long_placing, unlisted_read, unlisted_short, unlisted_day, placed_read, placed_short, placed_day}
+use Rattle.planning.proofs.DayLaws.{fed_long, words_written}
+use Rattle.planning.proofs.CallAnswers.{tested_placing, long_placing, unlisted_read, unlisted_short, unlisted_day, placed_read, placed_short, placed_day}
 use Rattle.planning.proofs.calls.plan_placing_of.Goals as goal
 
 pub returns-then-sheet-ne0 : goal.returns-then-sheet-ne0

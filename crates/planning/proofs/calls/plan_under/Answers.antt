@@ -4,8 +4,8 @@ use mathlib.Core.Bool.{◌||◌}
 use Rattle.common.specs.Tests.{or_left, or_right}
 use Rattle.planning.specs.Problem.{whole_day, listing_of, words_for}
 use Rattle.planning.specs.Planning.{short_plan, short_placing}
-use Rattle.planning.specs.DayLaws.{fed_long, words_written}
-use Rattle.planning.specs.CallAnswers.{short_plan_lem, room_plan, tested_placing, long_placing, neither, listed_read, listed_short, listed_day, placed_read, placed_short, placed_day, busy_read, busy_short, busy_day}
+use Rattle.planning.proofs.DayLaws.{fed_long, words_written}
+use Rattle.planning.proofs.CallAnswers.{short_plan_lem, room_plan, tested_placing, long_placing, neither, listed_read, listed_short, listed_day, placed_read, placed_short, placed_day, busy_read, busy_short, busy_day}
 use Rattle.planning.proofs.calls.plan_under.Goals as goal
 
 pub returns-then-sheet-ne0 : goal.returns-then-sheet-ne0

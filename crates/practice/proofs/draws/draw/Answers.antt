@@ -1,6 +1,6 @@
 -- `practice::draws::draw` meets its contract. Assumes nothing.
 use Rattle.std.proofs.Common.{◌/◌, ap}
-use Rattle.practice.specs.DrawLaws.{next_from}
+use Rattle.practice.proofs.DrawLaws.{next_from}
 use Rattle.practice.proofs.draws.draw.Goals as goal
 
 pub returns : goal.returns

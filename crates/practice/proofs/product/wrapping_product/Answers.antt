@@ -1,7 +1,7 @@
 -- `practice::product::wrapping_product` meets its contract: what is summed and what is left make up the product.
 -- Assumes nothing.
 use Rattle.std.proofs.Common.{◌∙◌, arith, inl, inr}
-use Rattle.practice.specs.ProductLaws.{product_begin, product_next, product_end}
+use Rattle.practice.proofs.ProductLaws.{product_begin, product_next, product_end}
 use Rattle.practice.proofs.product.wrapping_product.Goals as goal
 use Rattle.practice.proofs.product.wrapping_product.Goals.{then-left-eq1, else-left-eq1}
 

@@ -1,6 +1,6 @@
 -- `practice::product::wrapping_product` meets its contract: what is summed and what is left make up the product.
 -- Assumes nothing.
-use Rattle.practice.specs.ProductLaws.{Product}
+use Rattle.practice.proofs.ProductLaws.{Product}
 use Rattle.practice.proofs.product.wrapping_product.Given as goal
 
 abbrev pub invariant-loop-left : goal.invariant-loop-left

@@ -1,5 +1,5 @@
 -- `practice::rations::put_ration` meets its contract. Assumes nothing.
-use Rattle.practice.specs.DrawLaws.{three_seeds, ration_put, last_within, volume_within}
+use Rattle.practice.proofs.DrawLaws.{three_seeds, ration_put, last_within, volume_within}
 use Rattle.std.proofs.Common.{arith}
 use Rattle.practice.proofs.rations.put_ration.Goals as goal
 

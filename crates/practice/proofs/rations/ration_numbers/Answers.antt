@@ -1,6 +1,6 @@
 -- `practice::rations::ration_numbers` meets its contract. Assumes nothing.
 use Rattle.std.proofs.Common.{◌-◌, arith}
-use Rattle.practice.specs.PracticeLaws.{drawing_begin, drawing_next, drawing_end}
+use Rattle.practice.proofs.PracticeLaws.{drawing_begin, drawing_next, drawing_end}
 use Rattle.practice.proofs.rations.ration_numbers.Goals as goal
 
 pub loop-i-init : goal.loop-i-init

@@ -1,6 +1,6 @@
 -- `practice::rations::ration_numbers` meets its contract. Assumes nothing.
 use Rattle.std.proofs.Common.{◌-◌}
-use Rattle.practice.specs.PracticeLaws.{Drawing}
+use Rattle.practice.proofs.PracticeLaws.{Drawing}
 use Rattle.practice.proofs.rations.ration_numbers.Given as goal
 
 abbrev pub invariant-loop-i : goal.invariant-loop-i

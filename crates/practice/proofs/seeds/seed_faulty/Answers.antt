@@ -1,6 +1,6 @@
 -- `practice::seeds::seed_faulty` meets its contract. Assumes nothing.
 use Rattle.std.proofs.Common.{sym, ◌∙◌, arith}
-use Rattle.practice.specs.SeedLaws.{seed_other_length, seed_other_field, seed_too_great, seed_closed}
+use Rattle.practice.proofs.SeedLaws.{seed_other_length, seed_other_field, seed_too_great, seed_closed}
 use Rattle.practice.proofs.seeds.seed_faulty.Goals as goal
 
 pub returns-then-b : goal.returns-then-b

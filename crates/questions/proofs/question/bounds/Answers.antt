@@ -1,5 +1,5 @@
 -- `questions::question::bounds` meets its contract. Assumes nothing.
-use Rattle.sheet.specs.OwnCheckLaws.{bytes_read}
+use Rattle.sheet.proofs.OwnCheckLaws.{bytes_read}
 use Rattle.questions.specs.Calls.{bounds_of}
 use Rattle.questions.proofs.question.bounds.Goals as goal
 

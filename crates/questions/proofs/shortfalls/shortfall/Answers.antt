@@ -1,5 +1,5 @@
 -- `questions::shortfalls::shortfall` meets its contract. Assumes nothing.
-use Rattle.sheet.specs.OwnCheckLaws.{bytes_read}
+use Rattle.sheet.proofs.OwnCheckLaws.{bytes_read}
 use Rattle.questions.specs.Calls.{shortfall_of}
 use Rattle.questions.proofs.shortfalls.shortfall.Goals as goal
 

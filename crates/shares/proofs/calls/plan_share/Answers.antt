@@ -2,9 +2,9 @@
 use mathlib.Core.Path.{sym, ◌∙◌}
 use borrow.Author.Tests.{lt-ltb}
 use Rattle.common.specs.Tests.{or_left, or_right}
-use Rattle.sheet.specs.OwnCheckLaws.{bytes_read}
+use Rattle.sheet.proofs.OwnCheckLaws.{bytes_read}
 use Rattle.planning.specs.Planning.{short_plan, short_placing}
-use Rattle.planning.specs.CallAnswers.{short_plan_lem, room_plan, tested_placing, room_placing, neither}
+use Rattle.planning.proofs.CallAnswers.{short_plan_lem, room_plan, tested_placing, room_placing, neither}
 use Rattle.shares.proofs.ShareSteps.{share_refused_lem, share_short, share_read, share_within, cut_reading, share_done}
 use Rattle.shares.proofs.calls.plan_share.Goals as goal
 

@@ -2,7 +2,7 @@
 use mathlib.Core.Path.{refl, sym, ◌∙◌}
 use Prim.Native.Nat.{◌+◌, ◌*◌, ◌-◌}
 use Rattle.line.specs.Layout.{width, fields, line_bytes}
-use Rattle.sheet.specs.LineSteps.{field_hit, field_miss, closing_hit, closing_miss, faulty_begin, first_begin, first_end, first_hit, first_miss}
+use Rattle.sheet.proofs.LineSteps.{field_hit, field_miss, closing_hit, closing_miss, faulty_begin, first_begin, first_end, first_hit, first_miss}
 use native.Mathlib.Omega.{arith}
 use Rattle.sheet.proofs.lines.first_faulty.Goals as goal
 

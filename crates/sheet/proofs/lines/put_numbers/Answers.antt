@@ -2,7 +2,7 @@
 use mathlib.Core.Path.{◌∙◌}
 use Prim.Native.Nat.{◌+◌, ◌*◌}
 use Rattle.line.specs.Layout.{width, line_bytes}
-use Rattle.sheet.specs.LineSteps.{put_numbers_at, value_place}
+use Rattle.sheet.proofs.LineSteps.{put_numbers_at, value_place}
 use native.Mathlib.Omega.{arith}
 use Rattle.sheet.proofs.lines.put_numbers.Goals as goal
 

@@ -1,5 +1,5 @@
 -- `sheet::reader::form_refusal` meets its contract. Assumes nothing.
-use Rattle.sheet.specs.ReadSteps.{first_faulty_le, form_short, form_long, form_odd, form_fine, form_faulty}
+use Rattle.sheet.proofs.ReadSteps.{first_faulty_le, form_short, form_long, form_odd, form_fine, form_faulty}
 use Prim.Native.Nat.{◌/◌}
 use lib.ListN.{length}
 use Rattle.line.specs.Layout.{line_bytes}

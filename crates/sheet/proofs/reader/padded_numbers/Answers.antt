@@ -5,7 +5,7 @@ use lib.ListN.{get_or}
 use Rattle.line.specs.Layout.{fields}
 use Rattle.checks.specs.Limits.{max_rations}
 use Rattle.common.specs.FillLaws.{filled_begin, filled_next}
-use Rattle.sheet.specs.ValueSteps.{numbers_end}
+use Rattle.sheet.proofs.ValueSteps.{numbers_end}
 use native.Mathlib.Omega.{arith}
 use Rattle.sheet.proofs.reader.padded_numbers.Goals as goal
 

@@ -6,10 +6,10 @@ use Rattle.common.specs.BufferLaws.{length_padded}
 use Rattle.line.specs.Layout.{width, fields, line_bytes}
 use Rattle.checks.specs.Limits.{max_rations}
 use Rattle.checks.specs.Sheet.{line_count, numbers_to}
-use Rattle.sheet.specs.LineSteps.{value_place}
+use Rattle.sheet.proofs.LineSteps.{value_place}
 use Rattle.checks.specs.Sheet.{job_at}
 use Rattle.checks.specs.NumbersLaws.{length_numbers_to}
-use Rattle.sheet.specs.ReadSteps.{form_refused, head_refused, head_passed, head_agrees, jobs_refused, read_accepted}
+use Rattle.sheet.proofs.ReadSteps.{form_refused, head_refused, head_passed, head_agrees, jobs_refused, read_accepted}
 use native.Mathlib.Omega.{arith}
 use Rattle.sheet.proofs.reader.read.Goals as goal
 

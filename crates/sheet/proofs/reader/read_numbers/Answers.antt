@@ -1,6 +1,6 @@
 -- `sheet::reader::read_numbers` meets its contract. Assumes nothing.
 use mathlib.Core.Path.{◌∙◌}
-use Rattle.sheet.specs.ValueSteps.{numbers_refused, numbers_few, numbers_accepted}
+use Rattle.sheet.proofs.ValueSteps.{numbers_refused, numbers_few, numbers_accepted}
 use Rattle.sheet.proofs.reader.read_numbers.Goals as goal
 
 pub returns-then-r-ne0 : goal.returns-then-r-ne0

@@ -5,7 +5,7 @@ use Rattle.common.specs.Lists.{flat_map}
 use Rattle.common.specs.Buffers.{put_at}
 use Rattle.line.specs.Layout.{line_bytes}
 use Rattle.checks.specs.Sheet.{write_job}
-use Rattle.sheet.specs.WriteSteps.{first_jobs, put_ration, put_rations_begin}
+use Rattle.sheet.proofs.WriteSteps.{first_jobs, put_ration, put_rations_begin}
 use native.Mathlib.Omega.{arith}
 use Rattle.sheet.proofs.writer.put_rations.Goals as goal
 

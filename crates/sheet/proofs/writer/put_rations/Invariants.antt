@@ -7,7 +7,7 @@ use Rattle.common.specs.Buffers.{put_at}
 use Rattle.line.specs.Layout.{fields, line_bytes}
 use Rattle.checks.specs.Limits.{max_rations}
 use Rattle.checks.specs.Sheet.{write_job}
-use Rattle.sheet.specs.WriteSteps.{first_jobs}
+use Rattle.sheet.proofs.WriteSteps.{first_jobs}
 use Rattle.sheet.proofs.writer.put_rations.Given as goal
 
 abbrev pub invariant-loop-i : goal.invariant-loop-i

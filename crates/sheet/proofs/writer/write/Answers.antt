@@ -1,8 +1,8 @@
 -- `sheet::writer::write` meets its contract: it writes what is read of the numbers. Assumes nothing.
 use Rattle.checks.specs.Sheet.{sheet_from}
 use Rattle.checks.specs.Checks.{flat_faults}
-use Rattle.sheet.specs.OwnCheckLaws.{flat_checked}
-use Rattle.sheet.specs.WriteSteps.{wrote_flat}
+use Rattle.sheet.proofs.OwnCheckLaws.{flat_checked}
+use Rattle.sheet.proofs.WriteSteps.{wrote_flat}
 use Rattle.sheet.proofs.writer.write.Goals as goal
 
 pub write_of-requires : goal.write_of-requires

@@ -1,5 +1,5 @@
 -- `sheet::writer::write_of` meets its contract. Assumes nothing.
-use Rattle.sheet.specs.WriteSteps.{wrote_refused, wrote_short, wrote_few, wrote_long, wrote_read}
+use Rattle.sheet.proofs.WriteSteps.{wrote_refused, wrote_short, wrote_few, wrote_long, wrote_read}
 use native.Mathlib.Omega.{arith}
 use Rattle.sheet.proofs.writer.write_of.Goals as goal
 

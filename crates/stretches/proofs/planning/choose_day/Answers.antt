@@ -1,5 +1,5 @@
 -- `stretches::planning::choose_day` meets its contract. Assumes nothing.
-use Rattle.stretches.specs.DayLaws.{can_choose, day_chosen}
+use Rattle.stretches.proofs.DayLaws.{can_choose, day_chosen}
 use Rattle.stretches.proofs.planning.choose_day.Goals as goal
 
 pub settle-requires : goal.settle-requires

@@ -2,7 +2,7 @@
 use mathlib.Core.Path.{refl}
 use Rattle.placing.specs.RationLaws.{rations_longest}
 use Rattle.placing.specs.WordLaws.{windows_of_day, volumes_of_day}
-use Rattle.stretches.specs.DayLaws.{can_plan_day, day_planned}
+use Rattle.stretches.proofs.DayLaws.{can_plan_day, day_planned}
 use Rattle.stretches.proofs.planning.plan_day.Goals as goal
 
 pub mark_windows-requires : goal.mark_windows-requires

@@ -1,7 +1,7 @@
 -- `stretches::planning::plan_words` meets its contract. Assumes nothing.
 use mathlib.Core.Path.{refl}
 use Rattle.placing.specs.FeasibilitySteps.{some_short}
-use Rattle.stretches.specs.DayLaws.{can_begin_words, can_choose_words, words_planned, words_held}
+use Rattle.stretches.proofs.DayLaws.{can_begin_words, can_choose_words, words_planned, words_held}
 use Rattle.stretches.proofs.planning.plan_words.Goals as goal
 
 pub begin-requires : goal.begin-requires

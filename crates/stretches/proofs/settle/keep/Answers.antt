@@ -1,5 +1,5 @@
 -- `stretches::settle::keep` meets its contract. Assumes nothing.
-use Rattle.stretches.specs.SettlingLaws.{slot_ready, kept_idle, kept_busy}
+use Rattle.stretches.proofs.SettlingLaws.{slot_ready, kept_idle, kept_busy}
 use Rattle.stretches.proofs.settle.keep.Goals as goal
 
 pub busy-requires : goal.busy-requires

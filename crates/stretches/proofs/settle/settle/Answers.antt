@@ -1,6 +1,6 @@
 -- `stretches::settle::settle` meets its contract. What is left to settle after a blower is what was left before it. Assumes nothing.
 use mathlib.Core.Path.{refl, ◌∙◌}
-use Rattle.stretches.specs.SettlingLaws.{blowers_begin, blowers_next, blowers_end, passing_day}
+use Rattle.stretches.proofs.SettlingLaws.{blowers_begin, blowers_next, blowers_end, passing_day}
 use native.Mathlib.Omega.{arith}
 use Rattle.stretches.proofs.settle.settle.Goals as goal
 

@@ -1,7 +1,7 @@
 -- `stretches::settle::settle_blower` meets its contract. What is left to settle after a slot is what was left before it. Assumes nothing.
 use mathlib.Core.Path.{refl, ◌∙◌}
 use Prim.Native.Nat.{◌-◌}
-use Rattle.stretches.specs.SettlingLaws.{left_begin, left_next, left_end, passing_slot}
+use Rattle.stretches.proofs.SettlingLaws.{left_begin, left_next, left_end, passing_slot}
 use native.Mathlib.Omega.{arith}
 use Rattle.stretches.proofs.settle.settle_blower.Goals as goal
 

@@ -1,5 +1,5 @@
 -- `stretches::settle::step` meets its contract: the blower stays as it is, or changes over. Assumes nothing.
-use Rattle.stretches.specs.SettlingLaws.{stays, slot_again, turns}
+use Rattle.stretches.proofs.SettlingLaws.{stays, slot_again, turns}
 use Rattle.stretches.proofs.settle.step.Goals as goal
 
 pub keep-requires : goal.keep-requires

@@ -1,0 +1,12 @@
+pub mod DemandOne
+pub mod DemandTwo
+pub mod DemandThree
+pub mod AnswerLaws
+pub mod ByMethodLaws
+pub mod CausesLaws
+pub mod ComparisonLaws
+pub mod HallsLaws
+pub mod OutcomeLaws
+pub mod PracticeLaws
+pub mod RoundTripLaws
+pub mod SharesLaws

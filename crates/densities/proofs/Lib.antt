@@ -1,0 +1,2 @@
+pub mod DensityLaws
+pub mod SpreadLaws

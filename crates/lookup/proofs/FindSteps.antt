@@ -1,0 +1,226 @@
+-- The steps of a look-up: the search for a tank's first line and for the first line after it that is not of the tank, and the part between them. Assumes nothing.
+use Rattle.std.specs.Prelude.{◌≡◌, Bool, true, false, List, [], ◌∷◌, ltb, eqb}
+use Rattle.std.proofs.Math.Path.{refl, sym, ap}
+use Rattle.std.proofs.Common.{subst₂, ◌∙◌, add-one, eq-eqb, ne_eqb, eqb-true, ltb-true, ltb-false}
+use Rattle.std.proofs.Math.Bool.{cond}
+use Prim.Native.Nat.{ℕ, zero, suc, ◌+◌, ◌-◌, ◌*◌, ◌≤◌, ◌<◌}
+use native.Mathlib.Omega.{arith}
+use Rattle.std.proofs.Math.ListN.{length}
+use Rattle.std.proofs.lemmas.Bool.{eqb-false}
+use Rattle.common.specs.Lists.{part}
+use Rattle.line.specs.Layout.{line_bytes}
+use Rattle.line.specs.Line.{value_at}
+use Rattle.checks.specs.Sheet.{line_count, line_at, sheet_of}
+use Rattle.checks.specs.Checks.{first_refusal, faults}
+use Rattle.sheet.specs.Calls.{accepted, reading_of}
+use Rattle.lookup.specs.LookUp.{look_up, first_line, place_of, byte_from}
+use Rattle.lookup.specs.Parts.{line_after}
+use Rattle.lookup.specs.declared.Part.{Part}
+use Rattle.sheet.specs.declared.Reading.{Reading}
+use Rattle.sheet.proofs.CallLaws.{reading_of_accepted, faults_reading_of}
+use Rattle.lookup.proofs.LookUpLaws.{look_up_accepted, look_up_refused}
+use Rattle.checks.specs.WellFormedLaws.{well_formed_faults}
+use Rattle.lookup.proofs.FindLaws.{tank_at, tanks_never_fall, AllHave, NoneHas, first_line_first, line_after_after, tank_lines_part, length_part}
+use Rattle.checks.specs.FaultLaws.{numbered_faults}
+
+-- The two searches --------------------------------------------------------------------
+
+module _ (b : List ℕ) (tank i lines : ℕ) where
+  pub first_end : lines ≤ i → i ≡ first_line b tank i (lines - i)
+  unfolding first_line
+  first_end h = sym (ap (first_line b tank i) none)
+    where
+      none : lines - i ≡ zero
+      none = omega arith
+
+  pub after_end : lines ≤ i → i ≡ line_after b tank i (lines - i)
+  unfolding line_after
+  after_end h = sym (ap (line_after b tank i) none)
+    where
+      none : lines - i ≡ zero
+      none = omega arith
+
+  module _ (h : i < lines) where
+    count : lines - i ≡ suc (lines - (i + 1))
+    count = omega arith
+
+    first_next : first_line b tank i (lines - i) ≡ cond (eqb (value_at (line_at b i) 0) tank) i (first_line b tank (i + 1) (lines - (i + 1)))
+    unfolding first_line
+    first_next =
+        ap (first_line b tank i) count ∙ ap (λ k. cond (eqb (value_at (line_at b i) 0) tank) i (first_line b tank k (lines - (i + 1)))) (sym (add-one i))
+
+    after_next : line_after b tank i (lines - i) ≡ cond (eqb (value_at (line_at b i) 0) tank) (line_after b tank (i + 1) (lines - (i + 1))) i
+    unfolding line_after
+    after_next =
+        ap (line_after b tank i) count ∙ ap (λ k. cond (eqb (value_at (line_at b i) 0) tank) (line_after b tank k (lines - (i + 1))) i) (sym (add-one i))
+
+    module _ (e : value_at (line_at b i) 0 ≡ tank) where
+      pub first_hit : i ≡ first_line b tank i (lines - i)
+      first_hit = sym (first_next ∙ rw (eq-eqb (value_at (line_at b i) 0) tank e))
+
+      pub after_miss : line_after b tank i (lines - i) ≡ line_after b tank (i + 1) (lines - (i + 1))
+      after_miss = after_next ∙ rw (eq-eqb (value_at (line_at b i) 0) tank e)
+
+    module _ (n : value_at (line_at b i) 0 ≡ tank → ⊥) where
+      pub first_miss : first_line b tank i (lines - i) ≡ first_line b tank (i + 1) (lines - (i + 1))
+      first_miss = first_next ∙ rw (ne_eqb (value_at (line_at b i) 0) tank n)
+
+      pub after_hit : i ≡ line_after b tank i (lines - i)
+      after_hit = sym (after_next ∙ rw (ne_eqb (value_at (line_at b i) 0) tank n))
+
+-- The part between them -----------------------------------------------------------------
+
+abbrev pub nowhere : Part
+nowhere = record { start = 0; length = 0 }
+
+pub nowhere_empty : (b : List ℕ) (tank : ℕ) → look_up b tank ≡ [] → nowhere ≡ place_of b tank
+unfolding place_of
+nowhere_empty b tank e = sym (rw e)
+
+pub place_unread : (b : List ℕ) (tank : ℕ) → ((reading_of b).number ≡ 0 → ⊥) → nowhere ≡ place_of b tank
+unfolding accepted
+place_unread b tank n = nowhere_empty b tank (look_up_refused b tank (λ e. n (ap (λ r. r.number) (reading_of_accepted b e))))
+
+empty : (xs : List ℕ) → length xs ≡ 0 → xs ≡ []
+empty [] e = refl
+empty (x ∷ xs) e = absurd (omega arith)
+
+-- what is known of the lines of a tank on a sheet of `lines` lines: they are those from line f up to line a
+pub record Between (b : List ℕ) (tank f a : ℕ) : Type 0 where
+  pub least : 1 ≤ f
+  pub order : f ≤ a
+  pub most : a ≤ line_count b
+  pub bytes : line_bytes * line_count b ≡ length b
+  pub all : AllHave b tank f a
+  pub before : NoneHas b tank 1 f
+  pub past : NoneHas b tank a (line_count b)
+  pub lines : look_up b tank ≡ part (line_bytes * f) (line_bytes * a) b
+
+module _ (b : List ℕ) (tank : ℕ) (e : faults b ≡ []) where
+  abbrev first : ℕ
+  first = first_line b tank 1 (line_count b - 1)
+
+  abbrev after : ℕ
+  after = line_after b tank first (line_count b - first)
+
+  between_these : Between b tank first after
+  unfolding sheet_of
+  between_these =
+      let formed = well_formed_faults b e in
+      let never_fall = tanks_never_fall b (sheet_of b).slots 0 0 1 (line_count b - 1) formed.values.jobs in
+      let f = first_line_first b tank 1 (line_count b - 1) in
+      let a = line_after_after b tank first (line_count b - first) in
+      let size : 1 ≤ line_count b = omega (arith, formed.size.ge, formed.whole) in
+      let rest : 1 + (line_count b - 1) - first ≡ line_count b - first = omega arith in
+      record {
+        least = f.from;
+        order = a.from;
+        most = omega (arith, a.to, f.to);
+        bytes = sym formed.whole;
+        all = a.all;
+        before = f.none;
+        past = λ k p q t.
+            let h : tank_at b first ≡ tank = f.has (omega (arith, a.from)) in
+            a.stops (omega arith) (omega (arith, t, h, never_fall first after f.from a.from (omega arith), never_fall after k (omega (arith, f.from, a.from)) p (omega arith)));
+        lines =
+            look_up_accepted b tank e ∙ tank_lines_part b tank 1 (line_count b - 1) never_fall
+            ∙ ap (λ k. part (line_bytes * first) (line_bytes * line_after b tank first k) b) rest;
+      }
+
+  module _ (f a : ℕ) (p : f ≡ first) (q : a ≡ line_after b tank f (line_count b - f)) where
+    pub between : Between b tank f a
+    between = subst₂ (Between b tank) (sym p) (sym (q ∙ ap (λ k. line_after b tank k (line_count b - k)) p)) between_these
+
+    size : length (look_up b tank) ≡ line_bytes * a - line_bytes * f
+    size =
+        let h = between in
+        ap length h.lines ∙ length_part b (line_bytes * f) (line_bytes * a) (omega (arith, h.order)) (omega (arith, h.most, h.bytes))
+
+    pub place_none : a ≡ f → nowhere ≡ place_of b tank
+    unfolding place_of
+    place_none h = let z : length (look_up b tank) ≡ 0 = omega (arith, size) in sym (rw z)
+
+    pub place_some : (a ≡ f → ⊥) → record { start = line_bytes * f; length = line_bytes * (a - f) } ≡ place_of b tank
+    unfolding place_of
+    place_some h =
+        let o = between.order in
+        let n : length (look_up b tank) ≡ 0 → ⊥ = λ z. h (omega (arith, size)) in
+        let l : line_bytes * (a - f) ≡ length (look_up b tank) = omega (arith, size) in
+        (λ i. record { start = line_bytes * p i; length = l i }) ∙ sym (rw (ne_eqb (length (look_up b tank)) 0 n))
+
+  -- the lines of a tank, by the place that is answered
+  pub place_lines : part (place_of b tank).start ((place_of b tank).start + (place_of b tank).length) b ≡ look_up b tank
+  unfolding place_of
+  place_lines = go (eqb (length (look_up b tank)) 0) refl
+    where
+      here : Part
+      here = record { start = line_bytes * first; length = length (look_up b tank) }
+
+      go : (t : Bool) → eqb (length (look_up b tank)) 0 ≡ t
+          → part (cond t nowhere here).start ((cond t nowhere here).start + (cond t nowhere here).length) b ≡ look_up b tank
+      go true z = sym (empty (look_up b tank) (eqb-true (length (look_up b tank)) 0 z))
+      go false z =
+          let h = between_these in
+          let n : line_bytes * first + length (look_up b tank) ≡ line_bytes * after = omega (arith, size first after refl refl, h.order) in
+          ap (λ k. part (line_bytes * first) k b) n ∙ sym h.lines
+
+-- A tank's place is within the sheet, and its bytes are those of the look-up, on a refused sheet too.
+pub place_part : (b : List ℕ) (tank : ℕ) → part (place_of b tank).start ((place_of b tank).start + (place_of b tank).length) b ≡ look_up b tank
+unfolding first_refusal
+place_part b tank = go (eqb (first_refusal (faults b)).number 0) refl
+  where
+    go : (t : Bool) → eqb (first_refusal (faults b)).number 0 ≡ t → part (place_of b tank).start ((place_of b tank).start + (place_of b tank).length) b ≡ look_up b tank
+    go true z = place_lines b tank (numbered_faults b (eqb-true (first_refusal (faults b)).number 0 z))
+    go false z = place_refused
+      where
+        none : look_up b tank ≡ []
+        none = look_up_refused b tank (λ e. eqb-false (first_refusal (faults b)).number 0 z (ap (λ r. (first_refusal r).number) e))
+
+        place_refused : part (place_of b tank).start ((place_of b tank).start + (place_of b tank).length) b ≡ look_up b tank
+        place_refused = ap (λ (p : Part). part p.start (p.start + p.length) b) (sym (nowhere_empty b tank none)) ∙ sym none
+
+pub place_within : (b : List ℕ) (tank : ℕ) → (place_of b tank).start + (place_of b tank).length ≤ length b
+unfolding place_of first_refusal
+place_within b tank = go (eqb (length (look_up b tank)) 0) refl (eqb (first_refusal (faults b)).number 0) refl
+  where
+    here : Part
+    here = record { start = line_bytes * first_line b tank 1 (line_count b - 1); length = length (look_up b tank) }
+
+    go : (t : Bool) → eqb (length (look_up b tank)) 0 ≡ t → (u : Bool) → eqb (first_refusal (faults b)).number 0 ≡ u
+        → (cond t nowhere here).start + (cond t nowhere here).length ≤ length b
+    go true z u w = omega arith
+    go false z true w =
+        let e = numbered_faults b (eqb-true (first_refusal (faults b)).number 0 w) in
+        let h = between b tank e _ _ refl refl in
+        omega (arith, size b tank e _ _ refl refl, h.order, h.most, h.bytes)
+    go false z false w =
+        absurd (eqb-false (length (look_up b tank)) 0 z (ap length (look_up_refused b tank (λ e. eqb-false (first_refusal (faults b)).number 0 w (ap (λ r. (first_refusal r).number) e)))))
+
+pub placed_within : (b : List ℕ) (tank : ℕ) (p : Part) → p ≡ place_of b tank → p.start + p.length ≤ length b
+placed_within b tank p e = omega (arith, place_within b tank, ap (λ (x : Part). x.start) e, ap (λ (x : Part). x.length) e)
+
+-- a part that is cut out at the place begins where it is promised to
+pub placed_begins : (b : List ℕ) (tank : ℕ) (p : Part) (begin : ℕ × ℕ) → p ≡ place_of b tank
+    → (begin.0, p.start + begin.1) ≡ byte_from begin (place_of b tank).start
+unfolding byte_from
+placed_begins b tank p begin e = ap (λ n. (begin.0, n)) (omega (arith, ap (λ (x : Part). x.start) e))
+
+-- the two promises of a place are one
+pub placed : (b : List ℕ) (tank : ℕ) (p : Part) → p ≡ place_of b tank → (p ≡ place_of b tank) × (part p.start (p.start + p.length) b ≡ look_up b tank)
+placed b tank p e = (e, ap (λ (x : Part). part x.start (x.start + x.length) b) e ∙ place_part b tank)
+
+-- where a line has the tank, there is a line between
+pub before_or_past : (b : List ℕ) (tank f a i : ℕ) → Between b tank f a → 1 ≤ i → i < line_count b → tank_at b i ≡ tank → f < a
+before_or_past b tank f a i h p q t = go (ltb f a) refl
+  where
+    go : (u : Bool) → ltb f a ≡ u → f < a
+    go true e = ltb-true f a e
+    go false e = absurd (before (ltb i f) refl)
+      where
+        before : (u : Bool) → ltb i f ≡ u → ⊥
+        before true o = h.before i p (ltb-true i f o) t
+        before false o = h.past i (omega (arith, ltb-false i f o, ltb-false f a e)) q t
+
+-- the faults of a sheet that was read without refusal
+pub read_faults : (b : List ℕ) (r : Reading) → r ≡ reading_of b → r.number ≡ 0 → faults b ≡ []
+read_faults b r e z = faults_reading_of b (sym (ap (λ x. x.number) e) ∙ z)

@@ -1,0 +1,4 @@
+pub mod FindLaws
+pub mod FindSteps
+pub mod LookUpLaws
+pub mod Theorems

@@ -1,0 +1,4 @@
+pub mod CountLaws
+pub mod EveryLaws
+pub mod MarkSteps
+pub mod Theorems

@@ -1,0 +1,15 @@
+pub mod AloneLaws
+pub mod CallAnswers
+pub mod DayLaws
+pub mod FeedLineLaws
+pub mod FitLaws
+pub mod InputLaws
+pub mod ListLaws
+pub mod PlacingLaws
+pub mod ProblemLaws
+pub mod ReadLaws
+pub mod SlotLineLaws
+pub mod SlotSetLaws
+pub mod StretchLineLaws
+pub mod Theorems
+pub mod WrittenLaws

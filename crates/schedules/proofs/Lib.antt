@@ -1,0 +1,14 @@
+pub mod CauseLaws
+pub mod Certificates
+pub mod CriticalLaws
+pub mod DemandLaws
+pub mod Differences
+pub mod EnumerationLaws
+pub mod FeasibleLaws
+pub mod GreatestLaws
+pub mod LeastSetLaws
+pub mod ListLaws
+pub mod OneSlot
+pub mod RestLaws
+pub mod Theorems
+pub mod WindowLaws

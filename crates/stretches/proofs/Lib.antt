@@ -1,0 +1,2 @@
+pub mod DayLaws
+pub mod SettlingLaws

@@ -1,0 +1,13 @@
+pub mod Augment
+pub mod Bounds
+pub mod Closed
+pub mod Complement
+pub mod Critical
+pub mod Edges
+pub mod Excess
+pub mod Layers
+pub mod LeastSet
+pub mod Move
+pub mod Optimum
+pub mod Row
+pub mod Volumes
