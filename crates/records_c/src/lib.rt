@@ -30,13 +30,13 @@ pub extern "C" fn kiwimound_write_rations(
     out: &mut [u8],
 ) -> Written
     ensures { (result ≡ written_of
-            (write_refusal_for (record_faults (record_sheet slots blowers wake rations.now))
-                (record_sheet slots blowers wake rations.now) (length out.old))
-            (record_sheet slots blowers wake rations.now))
+        (write_refusal_for (record_faults (record_sheet slots blowers wake rations.now))
+        (record_sheet slots blowers wake rations.now) (length out.old))
+        (record_sheet slots blowers wake rations.now))
         × (out.new ≡ buffer_after
-            (write_refusal_for (record_faults (record_sheet slots blowers wake rations.now))
-                (record_sheet slots blowers wake rations.now) (length out.old))
-            (record_sheet slots blowers wake rations.now) out.old) }
+        (write_refusal_for (record_faults (record_sheet slots blowers wake rations.now))
+        (record_sheet slots blowers wake rations.now) (length out.old))
+        (record_sheet slots blowers wake rations.now) out.old) }
 {
     records::kiwimound_write_rations(slots, blowers, wake, rations, out)
 }
@@ -52,13 +52,13 @@ pub extern "C" fn kiwimound_plan_rations(
     listing: &mut [u8],
 ) -> Planned
     ensures { (result ≡ listed_answer
-            (plan_refusal_for (record_faults (record_sheet slots blowers wake rations.now))
-                (record_sheet slots blowers wake rations.now) (short_plan listing.old))
-            (listing_of (alone (record_sheet slots blowers wake rations.now))))
+        (plan_refusal_for (record_faults (record_sheet slots blowers wake rations.now))
+        (record_sheet slots blowers wake rations.now) (short_plan listing.old))
+        (listing_of (alone (record_sheet slots blowers wake rations.now))))
         × (listing.new ≡ listing_after
-            (plan_refusal_for (record_faults (record_sheet slots blowers wake rations.now))
-                (record_sheet slots blowers wake rations.now) (short_plan listing.old))
-            (listing_of (alone (record_sheet slots blowers wake rations.now))) listing.old) }
+        (plan_refusal_for (record_faults (record_sheet slots blowers wake rations.now))
+        (record_sheet slots blowers wake rations.now) (short_plan listing.old))
+        (listing_of (alone (record_sheet slots blowers wake rations.now))) listing.old) }
 {
     records::kiwimound_plan_rations(slots, blowers, wake, rations, listing)
 }
@@ -75,17 +75,17 @@ pub extern "C" fn kiwimound_plan_rations_both(
     placing: &mut [u64],
 ) -> Planned
     ensures { (result ≡ listed_answer
-            (plan_refusal_for (record_faults (record_sheet slots blowers wake rations.now))
-                (record_sheet slots blowers wake rations.now) (short_plan listing.old || short_placing placing.old))
-            (listing_of (alone (record_sheet slots blowers wake rations.now))))
+        (plan_refusal_for (record_faults (record_sheet slots blowers wake rations.now))
+        (record_sheet slots blowers wake rations.now) (short_plan listing.old || short_placing placing.old))
+        (listing_of (alone (record_sheet slots blowers wake rations.now))))
         × (listing.new ≡ listing_after
-            (plan_refusal_for (record_faults (record_sheet slots blowers wake rations.now))
-                (record_sheet slots blowers wake rations.now) (short_plan listing.old || short_placing placing.old))
-            (listing_of (alone (record_sheet slots blowers wake rations.now))) listing.old)
+        (plan_refusal_for (record_faults (record_sheet slots blowers wake rations.now))
+        (record_sheet slots blowers wake rations.now) (short_plan listing.old || short_placing placing.old))
+        (listing_of (alone (record_sheet slots blowers wake rations.now))) listing.old)
         × (placing.new ≡ placing_after
-            (plan_refusal_for (record_faults (record_sheet slots blowers wake rations.now))
-                (record_sheet slots blowers wake rations.now) (short_plan listing.old || short_placing placing.old))
-            (words_for (alone (record_sheet slots blowers wake rations.now))) placing.old) }
+        (plan_refusal_for (record_faults (record_sheet slots blowers wake rations.now))
+        (record_sheet slots blowers wake rations.now) (short_plan listing.old || short_placing placing.old))
+        (words_for (alone (record_sheet slots blowers wake rations.now))) placing.old) }
 {
     records::kiwimound_plan_rations_both(slots, blowers, wake, rations, listing, placing)
 }
@@ -101,7 +101,7 @@ pub extern "C" fn kiwimound_shortfall_rations(
     marks: &[u8],
 ) -> ShortfallAnswer
     ensures { result ≡ shortfall_for (record_faults (record_sheet slots blowers wake rations.now))
-            (record_sheet slots blowers wake rations.now) marks.now }
+        (record_sheet slots blowers wake rations.now) marks.now }
 {
     records::kiwimound_shortfall_rations(slots, blowers, wake, rations, marks)
 }
@@ -118,7 +118,7 @@ pub extern "C" fn kiwimound_bounds_rations(
     highs: &[u32],
 ) -> BoundsAnswer
     ensures { result ≡ bounds_for (record_faults (record_sheet slots blowers wake rations.now))
-            (record_sheet slots blowers wake rations.now) lows.now highs.now }
+        (record_sheet slots blowers wake rations.now) lows.now highs.now }
 {
     records::kiwimound_bounds_rations(slots, blowers, wake, rations, lows, highs)
 }
