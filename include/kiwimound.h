@@ -1,7 +1,7 @@
 /* Kiwimound: plans the feed day of a trout farm. The calls of the static libraries libkiwimound.a and librecords.a.
  *
- * Build the library with `rt staticlib kiwimound`; it is then target/staticlib/libkiwimound.a, for x86-64 Linux. Of
- * other libraries it needs memcpy and memset alone. It keeps no state between calls, takes no memory from the heap,
+ * Build the library with bindings/library; it is then target/staticlib/libkiwimound.a, for x86-64 Linux. Of other
+ * libraries it needs memcpy and memset alone. It keeps no state between calls, takes no memory from the heap,
  * and reads and writes nothing but what a call lends it. So any number of threads may call it at once, as long as no
  * two of them lend the same memory for writing.
  *
@@ -340,7 +340,7 @@ kiwimound_causes_answer kiwimound_causes(const uint8_t *sheet, size_t sheet_leng
 
 /* Rations as records ----------------------------------------------------------------------------------------------- */
 
-/* These calls are in a library of their own, librecords.a (`rt staticlib records`), which is linked beside
+/* These calls are in a library of their own, librecords.a (bindings/library records), which is linked beside
  * libkiwimound.a of the same version. Each answers what the call above answers to the sheet of these head numbers and
  * rations, in their order: refusals 3 to 9 and 13, where `line` is the line that the ration would have had and more
  * than 64 rations are 6, then those of the call itself. */

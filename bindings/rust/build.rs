@@ -15,7 +15,7 @@ fn main() {
     if !library.is_file() {
         eprintln!("kiwimound: {} is not there.", library.display());
         eprintln!(
-            "Build it with `rt staticlib kiwimound` at the top of the repository, or name its folder in KIWIMOUND_LIB_DIR."
+            "Build it with `bindings/library` at the top of the repository, or name its folder in KIWIMOUND_LIB_DIR."
         );
         process::exit(1);
     }

@@ -1,5 +1,5 @@
 //! Links `libkiwimound.a` and `librecords.a`: those of the folder KIWIMOUND_LIB_DIR, or else
-//! those that `rt staticlib` writes in this repository.
+//! those that `bindings/library` writes in this repository.
 
 use std::path::PathBuf;
 use std::{env, process};
@@ -16,7 +16,10 @@ fn main() {
         let archive = folder.join(format!("lib{name}.a"));
         println!("cargo:rerun-if-changed={}", archive.display());
         if !archive.is_file() {
-            eprintln!("{} is not there: rt staticlib {name}", archive.display());
+            eprintln!(
+                "{} is not there: bindings/library {name}",
+                archive.display()
+            );
             process::exit(1);
         }
         println!("cargo:rustc-link-lib=static={name}");

@@ -1,5 +1,5 @@
-// The calls for outsiders under their C names, for a program in C or Rust to link (`rt staticlib kiwimound`;
-// include/kiwimound.h).
+// The calls for outsiders under their C names, for a program in C or Rust to link (`bindings/library kiwimound`, which
+// runs `rt lib` here; include/kiwimound.h).
 //
 // Each forwards to the call of its layer, asks nothing of its caller and carries the same promise. A slice is a pointer
 // and then a length.

@@ -4,6 +4,8 @@
 // and hands the reading to the function that the call on a sheet's bytes hands its own to. So it answers what that call
 // answers to the sheet that these records make (specs/Records.antt); the checks 1 and 2, which are about a sheet's
 // bytes, have nothing to look at.
+//
+// C callers reach these calls through `records_c`, which exports each again under its name: a library exports nothing.
 #![tactic(auto)]
 
 mod flats;
