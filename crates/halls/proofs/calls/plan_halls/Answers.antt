@@ -17,10 +17,13 @@ returns-then-refusal-ne0 c = let limit = c.args.limit in
     let m : Hall = lent c.args.sheet_3.now c.args.listing_3.now c.args.placing_3.now in
     let n : Hall = lent c.args.sheet_4.now c.args.listing_4.now c.args.placing_4.now in
     let refused : (halls_refusal limit halls).number ≡ 0 → ⊥ = λ z. c.if-refusal-ne0.true (ap (λ r. r.number) e ∙ z) in
-    let left : (i : ℕ) → ◌≡◌ {A = Buffers} _ (outcome_of limit halls (four h k m n) i).buffers = λ i. ap (λ x. x.buffers) (sym (refused_outcome limit halls refused h k m n i)) in let all = (
-      c.refuse_halls.ensures ∙ (λ i. record { number = (e i).number; line = (e i).line; first = nothing; second = nothing; third = nothing; fourth = nothing }) ∙ refused_answer limit halls refused h k m n,
-      (left 0, (left 1, (left 2, left 3))),
-    ) in record { value = all.0; hall_1 = all.1; hall_2 = all.2; hall_3 = all.3; hall_4 = all.4 }
+    let left : (i : ℕ) → ◌≡◌ {A = Buffers} _ (outcome_of limit halls (four h k m n) i).buffers = λ i. ap (λ x. x.buffers) (sym (refused_outcome limit halls refused h k m n i)) in record {
+      value = c.refuse_halls.ensures ∙ (λ i. record { number = (e i).number; line = (e i).line; first = nothing; second = nothing; third = nothing; fourth = nothing }) ∙ refused_answer limit halls refused h k m n;
+      hall_1 = left 0;
+      hall_2 = left 1;
+      hall_3 = left 2;
+      hall_4 = left 3;
+    }
 
 pub overflow_cast-most : goal.overflow_cast-most
 overflow_cast-most c = omega (arith, (halls_in_range c.args.limit c.args.halls (sym (ap (λ r. r.number) c.halls_refusal-refusal.ensures) ∙ c.if-refusal-ne0.false)).1)
@@ -69,7 +72,10 @@ returns c = let limit = c.args.limit in
     let d₁ = c.plan_hall-hall_1.ensures in
     let d₂ = c.plan_hall_if-hall_2.ensures in
     let d₃ = c.plan_hall_if-hall_3.ensures in
-    let d₄ = c.plan_hall_if-hall_4.ensures in let all = (
-      (λ i. record { number = (e i).number; line = (e i).line; first = c.plan_hall-hall_1.result.planned; second = c.plan_hall_if-hall_2.result.planned; third = c.plan_hall_if-hall_3.result.planned; fourth = c.plan_hall_if-hall_4.result.planned }) ∙ planned_answer limit halls z d₁ d₂ d₃ d₄,
-      (buffers₁ limit halls z d₁ d₂ d₃ d₄, (buffers₂ limit halls z d₁ d₂ d₃ d₄, (buffers₃ limit halls z d₁ d₂ d₃ d₄, buffers₄ limit halls z d₁ d₂ d₃ d₄))),
-    ) in record { value = all.0; hall_1 = all.1; hall_2 = all.2; hall_3 = all.3; hall_4 = all.4 }
+    let d₄ = c.plan_hall_if-hall_4.ensures in record {
+      value = (λ i. record { number = (e i).number; line = (e i).line; first = c.plan_hall-hall_1.result.planned; second = c.plan_hall_if-hall_2.result.planned; third = c.plan_hall_if-hall_3.result.planned; fourth = c.plan_hall_if-hall_4.result.planned }) ∙ planned_answer limit halls z d₁ d₂ d₃ d₄;
+      hall_1 = buffers₁ limit halls z d₁ d₂ d₃ d₄;
+      hall_2 = buffers₂ limit halls z d₁ d₂ d₃ d₄;
+      hall_3 = buffers₃ limit halls z d₁ d₂ d₃ d₄;
+      hall_4 = buffers₄ limit halls z d₁ d₂ d₃ d₄;
+    }

@@ -9,19 +9,31 @@ use Rattle.shares.proofs.ShareSteps.{share_refused_lem, share_short, share_read,
 use Rattle.shares.proofs.calls.plan_share.Goals as goal
 
 pub returns-then-sheet-ne0 : goal.returns-then-sheet-ne0
-returns-then-sheet-ne0 c = let u = share_refused_lem c.args.b.now c.args.listing.now c.args.placing.now (bytes_read _ c.read-sheet.ensures) c.if-sheet-ne0.true in let all = (c.refuse_share.ensures ∙ u.answer, (u.listed, u.placed)) in record { value = all.0; listing_bytes = all.1; placing_bytes = all.2 }
+returns-then-sheet-ne0 c = let u = share_refused_lem c.args.b.now c.args.listing.now c.args.placing.now (bytes_read _ c.read-sheet.ensures) c.if-sheet-ne0.true in record {
+      value = c.refuse_share.ensures ∙ u.answer;
+      listing_bytes = u.listed;
+      placing_bytes = u.placed;
+    }
 
 pub returns-then-listing-lt-PLAN_BYTES : goal.returns-then-listing-lt-PLAN_BYTES
 returns-then-listing-lt-PLAN_BYTES c = let listing = c.args.listing.now in
     let placing = c.args.placing.now in
     let u = share_short c.args.b.now listing placing (bytes_read _ c.read-sheet.ensures) c.if-sheet-ne0.false (or_left (short_placing placing) (short_plan_lem listing c.if-listing-lt-PLAN_BYTES.true)) in
-    let all = (c.refuse_share-then-listing-lt-PLAN_BYTES.ensures ∙ u.answer, (u.listed, u.placed)) in record { value = all.0; listing_bytes = all.1; placing_bytes = all.2 }
+    record {
+      value = c.refuse_share-then-listing-lt-PLAN_BYTES.ensures ∙ u.answer;
+      listing_bytes = u.listed;
+      placing_bytes = u.placed;
+    }
 
 pub returns-then-placing-lt-PLACING_WORDS : goal.returns-then-placing-lt-PLACING_WORDS
 returns-then-placing-lt-PLACING_WORDS c = let listing = c.args.listing.now in
     let placing = c.args.placing.now in
     let u = share_short c.args.b.now listing placing (bytes_read _ c.read-sheet.ensures) c.if-sheet-ne0.false (or_right (short_plan listing) (tested_placing placing (sym (lt-ltb _ _ c.if-placing-lt-PLACING_WORDS.true)))) in
-    let all = (c.refuse_share-then-placing-lt-PLACING_WORDS.ensures ∙ u.answer, (u.listed, u.placed)) in record { value = all.0; listing_bytes = all.1; placing_bytes = all.2 }
+    record {
+      value = c.refuse_share-then-placing-lt-PLACING_WORDS.ensures ∙ u.answer;
+      listing_bytes = u.listed;
+      placing_bytes = u.placed;
+    }
 
 pub greatest_share-share-requires : goal.greatest_share-share-requires
 greatest_share-share-requires c = share_read c.args.b.now (bytes_read _ c.read-sheet.ensures) c.if-sheet-ne0.false
@@ -37,4 +49,8 @@ returns c = let listing = c.args.listing.now in
     let placing = c.args.placing.now in
     let f = neither (short_plan listing) (short_placing placing) (room_plan listing c.if-listing-lt-PLAN_BYTES.false) (room_placing placing c.if-placing-lt-PLACING_WORDS.false) in
     let u = share_done c.args.b.now listing placing (bytes_read _ c.read-sheet.ensures) c.if-sheet-ne0.false f c.greatest_share-share.ensures c.cut_sheet-cut.ensures c.plan_both_of-planned.ensures in
-    let all = (u.answer, (u.listed, u.placed)) in record { value = all.0; listing_bytes = all.1; placing_bytes = all.2 }
+    record {
+      value = u.answer;
+      listing_bytes = u.listed;
+      placing_bytes = u.placed;
+    }
