@@ -22,7 +22,8 @@ use Rattle.schedules.specs.Demands.{demands_of, no_low, full_high}
 use Rattle.schedules.proofs.DemandLaws.{DemandsInRange, demands_of_in_range}
 use Rattle.schedules.specs.Tabulate.{count_size}
 use Rattle.schedules.proofs.WindowLaws.{has_window, count_window}
-use Rattle.schedules.specs.AsFunctions.{free, bound, forced_as, sum_over_as}
+use Rattle.schedules.specs.AsFunctions.{free, bound}
+use Rattle.schedules.proofs.AsFunctions.{forced_as, sum_over_as}
 use Rattle.schedules.proofs.CriticalLaws.{within_capacity}
 use Rattle.placing.specs.Rations.{release_at, deadline_at, volume_at}
 use Rattle.placing.specs.Words.{in_window}

@@ -11,7 +11,8 @@ use Rattle.loads.specs.Meaning.{bit_at}
 use Rattle.loads.specs.MeaningLaws.{one_bit_at, ones_sum}
 use Rattle.schedules.specs.Schedules.{Demand, Schedule, Windows, Sound}
 use Rattle.schedules.specs.Schedules.{load as load_of}
-use Rattle.schedules.specs.AsFunctions.{fed, listed, Rows, load_as}
+use Rattle.schedules.specs.AsFunctions.{fed, listed, Rows}
+use Rattle.schedules.proofs.AsFunctions.{load_as}
 use Rattle.schedules.specs.Tabulate.{tab_unique}
 use Rattle.feedings.specs.CellChoice.{RowWord, ScheduleWords, Decided, MayFeed, FedBit}
 

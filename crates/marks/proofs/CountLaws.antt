@@ -15,7 +15,7 @@ use Rattle.theory.specs.Placing.{size}
 use Rattle.theory.proofs.Row.{size_split, inside_is}
 use Rattle.schedules.specs.Slots.{Slots, has, window, inside, outside}
 use Rattle.schedules.specs.Tabulate.{tab, length_tab, get_d_tab, count_size}
-use Rattle.schedules.specs.AsFunctions.{inside_as, outside_as}
+use Rattle.schedules.proofs.AsFunctions.{inside_as, outside_as}
 use Rattle.schedules.proofs.WindowLaws.{length_window, has_window, count_window}
 use Rattle.common.specs.FillLaws.{get_d_padded}
 use Rattle.marks.specs.Marks.{marked, marks_fault}

@@ -9,7 +9,8 @@ use Rattle.theory.specs.Sums.{sum, sum_cong}
 use Rattle.theory.specs.Placing.{count, Placing}
 use Rattle.theory.proofs.Move.{upd, upd_same}
 use Rattle.schedules.specs.Schedules.{Demand, Windows, volume_of, feasible}
-use Rattle.schedules.specs.AsFunctions.{free, fed, bound, listed, sound_bounded, bounded_sound}
+use Rattle.schedules.specs.AsFunctions.{free, fed, bound, listed}
+use Rattle.schedules.proofs.AsFunctions.{sound_bounded, bounded_sound}
 use Rattle.method.specs.Feedings.{Cells, chosen, before}
 use Rattle.method.proofs.FeedingCells.{before_first, before_self, before_next, before_next_slot}
 use Rattle.method.proofs.FeedingLaws.{chosen_sound, chosen_fed_iff}

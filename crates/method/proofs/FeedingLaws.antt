@@ -13,7 +13,8 @@ use Rattle.theory.proofs.Move.{upd_true}
 use Rattle.schedules.specs.Schedules.{Demand, Schedule, Sound, Windows, schedules, load, feasible}
 use Rattle.schedules.proofs.ListLaws.{in_keep, to_keep}
 use Rattle.schedules.proofs.EnumerationLaws.{schedules_mem}
-use Rattle.schedules.specs.AsFunctions.{Rows, length_load, fed}
+use Rattle.schedules.specs.AsFunctions.{Rows, fed}
+use Rattle.schedules.proofs.AsFunctions.{length_load}
 use Rattle.schedules.proofs.FeasibleLaws.{feasible_sound, sound_feasible}
 use Rattle.method.specs.Feedings.{fed_at, prefer, cells, with_counts, chosen, before, SameIn, Greedy}
 use Rattle.method.proofs.FeedingCells.{before_first, before_slot, before_next, before_next_slot, cells_split}

@@ -11,7 +11,8 @@ use Rattle.theory.proofs.Move.{upd, upd_same}
 use Rattle.schedules.specs.Slots.{has}
 use Rattle.schedules.specs.Schedules.{Demand, Schedule, Sound, Windows, volume_of}
 use Rattle.schedules.specs.Tabulate.{tab, get_d_tab}
-use Rattle.schedules.specs.AsFunctions.{free, fed, bound, listed, BoundedBy, sound_bounded, bounded_sound}
+use Rattle.schedules.specs.AsFunctions.{free, fed, bound, listed, BoundedBy}
+use Rattle.schedules.proofs.AsFunctions.{sound_bounded, bounded_sound}
 use Rattle.schedules.proofs.FeasibleLaws.{feasible_sound, sound_feasible}
 use Rattle.method.specs.Feedings.{Cells, SameIn}
 use Rattle.method.specs.FeedingResidual.{Residual, OfDay, Completes, completable, fix, may_feed, choice, undecided, joined, LeftOf}

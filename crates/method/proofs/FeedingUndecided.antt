@@ -9,7 +9,7 @@ use Rattle.theory.specs.Sums.{sum_cong}
 use Rattle.theory.specs.SumsOver.{one}
 use Rattle.theory.specs.Placing.{size, inside, count}
 use Rattle.theory.proofs.Row.{size_split, inside_is, outside_is}
-use Rattle.theory.proofs.Bounds.{Bounded}
+use Rattle.theory.specs.Bounds.{Bounded}
 use Rattle.theory.proofs.Move.{upd, upd_same, upd_true, size_upd, size_upd_other, count_upd, count_upd_other}
 use Rattle.method.specs.Feedings.{Cells}
 use Rattle.method.specs.FeedingResidual.{undecided, joined}

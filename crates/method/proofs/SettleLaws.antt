@@ -11,7 +11,7 @@ use Rattle.std.proofs.Math.Seq.{ext_get_or}
 use Rattle.std.proofs.lemmas.Bool.{lt-leb}
 use Rattle.schedules.specs.Schedules.{Demand, Schedule, Windows, load}
 use Rattle.schedules.specs.Tabulate.{get_d_map_below}
-use Rattle.schedules.specs.AsFunctions.{length_load}
+use Rattle.schedules.proofs.AsFunctions.{length_load}
 use Rattle.method.specs.Method.{Bounds, Sized, FeasibleDay, settle_all, loads}
 use Rattle.method.specs.Slotwise.{keep_at, busy_at, busy_from, settle_from, settle_each}
 use Rattle.method.proofs.StepLaws.{SoundUnder, Tighter, tighter_refl, tighter_trans, keep_at_tighter, possible_sound, busy_at_possible}

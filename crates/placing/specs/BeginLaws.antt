@@ -25,7 +25,8 @@ use Rattle.schedules.specs.Shortfall.{forced, critical_set}
 use Rattle.schedules.proofs.FeasibleLaws.{feasible_sound}
 use Rattle.schedules.proofs.CriticalLaws.{critical_as}
 use Rattle.schedules.specs.Tabulate.{tab}
-use Rattle.schedules.specs.AsFunctions.{free, sound_bounded}
+use Rattle.schedules.specs.AsFunctions.{free}
+use Rattle.schedules.proofs.AsFunctions.{sound_bounded}
 use Rattle.schedules.proofs.Certificates.{closed_forced}
 use Rattle.placing.specs.Represents.{Represents, DemandWords, HighWords, Begun, Holds, BegunAgain, marks_of, marked_loads}
 use Rattle.placing.specs.StepLaws.{state_bounds, represents_feasible}

@@ -12,7 +12,7 @@ use Rattle.loads.specs.Meaning.{seen_at}
 use Rattle.schedules.specs.Slots.{Slots}
 use Rattle.schedules.specs.Shortfall.{capacity}
 use Rattle.schedules.specs.Tabulate.{tab}
-use Rattle.schedules.specs.AsFunctions.{sum_over_tab}
+use Rattle.schedules.proofs.AsFunctions.{sum_over_tab}
 use Rattle.common.specs.FillLaws.{FilledTo, filled_end, get_d_padded}
 use Rattle.placing.specs.Represents.{HighWords, marks_of, marked_loads, marked_highs}
 use Rattle.common.specs.BufferLaws.{length_padded}

@@ -13,7 +13,8 @@ use Rattle.loads.specs.RaiseLaws.{raised_state, raised_kept, raised_none}
 use Rattle.common.specs.Tests.{false_of_not_true}
 use Rattle.schedules.specs.Schedules.{Demand, Windows, feasible}
 use Rattle.schedules.proofs.FeasibleLaws.{feasible_sound}
-use Rattle.schedules.specs.AsFunctions.{bound, sound_bounded}
+use Rattle.schedules.specs.AsFunctions.{bound}
+use Rattle.schedules.proofs.AsFunctions.{sound_bounded}
 use Rattle.schedules.proofs.Certificates.{places_feasible}
 use Rattle.placing.specs.Represents.{Represents, Ready, lowered, raised, Idled, Busied}
 

@@ -24,7 +24,8 @@ use Rattle.schedules.specs.Shortfall.{forced, capacity, shortfall}
 use Rattle.schedules.specs.Demands.{demands_of, no_low, full_high}
 use Rattle.schedules.specs.Rest.{rest_high, SameBefore, together}
 use Rattle.schedules.proofs.Theorems as Placing
-use Rattle.schedules.specs.AsFunctions.{Rows, fed, free, bound, listed, load_as, forced_as, sum_over_as, forced_tab, sum_over_tab}
+use Rattle.schedules.specs.AsFunctions.{Rows, fed, free, bound, listed}
+use Rattle.schedules.proofs.AsFunctions.{load_as, forced_as, sum_over_as, forced_tab, sum_over_tab}
 use Rattle.schedules.proofs.FeasibleLaws.{feasible_sound, sound_feasible, sound_looser}
 use Rattle.schedules.proofs.CriticalLaws.{length_critical_set}
 use Rattle.schedules.proofs.Differences.{sub_le}

@@ -11,7 +11,8 @@ use Rattle.common.specs.Lists.{range, keep, zip_with}
 use Rattle.schedules.specs.Slots.{Slots, has}
 use Rattle.schedules.specs.Schedules.{Schedule, one_more, load}
 use Rattle.schedules.specs.Tabulate.{get_d_zip_with}
-use Rattle.schedules.specs.AsFunctions.{Rows, length_load}
+use Rattle.schedules.specs.AsFunctions.{Rows}
+use Rattle.schedules.proofs.AsFunctions.{length_load}
 use Rattle.plan_lines.specs.Lines.{Line, fed_in, feed_line, slot_lines}
 use Rattle.planning.proofs.ListLaws.{in_zip_with}
 

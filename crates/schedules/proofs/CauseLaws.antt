@@ -28,7 +28,8 @@ use Rattle.schedules.proofs.ListLaws.{in_any, to_any}
 use Rattle.schedules.specs.Tabulate.{tab, length_zip_with}
 use Rattle.schedules.proofs.Differences.{sub_le_zero}
 use Rattle.schedules.proofs.EnumerationLaws.{subsets_mem}
-use Rattle.schedules.specs.AsFunctions.{free, bound, possible_as, sum_over_as}
+use Rattle.schedules.specs.AsFunctions.{free, bound}
+use Rattle.schedules.proofs.AsFunctions.{possible_as, sum_over_as}
 use Rattle.schedules.proofs.FeasibleLaws.{feasible_sound, sound_feasible, sound_no_obstacle, no_obstacle_sound}
 use Rattle.schedules.proofs.GreatestLaws.{Greatest}
 use Rattle.schedules.proofs.LeastSetLaws.{AsFunction, length_least, least_greatest, value_le_least, value_within, least_as}

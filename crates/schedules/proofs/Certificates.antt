@@ -14,7 +14,8 @@ use Rattle.theory.proofs.Critical.{closed_critical}
 use Rattle.schedules.specs.Schedules.{Demand, Windows, Sound, feasible, volume_of}
 use Rattle.schedules.specs.Shortfall.{forced, critical_set}
 use Rattle.schedules.specs.Tabulate.{tab}
-use Rattle.schedules.specs.AsFunctions.{free, bound, listed, forced_tab, sound_bounded, bounded_sound}
+use Rattle.schedules.specs.AsFunctions.{free, bound, listed}
+use Rattle.schedules.proofs.AsFunctions.{forced_tab, sound_bounded, bounded_sound}
 use Rattle.schedules.proofs.FeasibleLaws.{feasible_sound, sound_feasible}
 use Rattle.schedules.proofs.CriticalLaws.{critical_as}
 

@@ -20,7 +20,8 @@ use Rattle.schedules.specs.Schedules.{Demand, Windows, window_of, volume_of, fea
 use Rattle.schedules.specs.Shortfall.{forced, capacity, shortfall, possible, excess, NoObstacle, critical_set}
 use Rattle.schedules.specs.Tabulate.{tab, count_size}
 use Rattle.schedules.proofs.Differences.{sub_le, sub_le_zero}
-use Rattle.schedules.specs.AsFunctions.{free, bound, forced_as, sum_over_as}
+use Rattle.schedules.specs.AsFunctions.{free, bound}
+use Rattle.schedules.proofs.AsFunctions.{forced_as, sum_over_as}
 use Rattle.schedules.proofs.FeasibleLaws.{sound_feasible, no_obstacle_sound}
 use Rattle.schedules.proofs.GreatestLaws.{Greatest}
 use Rattle.schedules.proofs.LeastSetLaws.{AsFunction, length_least, least_greatest, least_within, value_le_least, value_within, least_as}

@@ -3,6 +3,7 @@
 use Rattle.std.specs.Prelude.{◌≡◌, true, List, ℕ, length}
 use Rattle.std.proofs.Common.{◌∙◌, arith}
 use Rattle.common.specs.Tests.{and_true}
+use Rattle.theory.specs.Bounds as D
 use Rattle.theory.proofs.Bounds as B
 use Rattle.schedules.specs.Slots.{sum_over}
 use Rattle.schedules.specs.Schedules.{Demand, Schedule, load, Sound, Windows, AtMost, schedules, at_most, within, feasible, volume_of}
@@ -11,7 +12,8 @@ use Rattle.schedules.proofs.ListLaws.{in_any, to_any}
 use Rattle.schedules.specs.Tabulate.{tab, length_tab, at_most_at, at_at_most}
 use Rattle.schedules.proofs.Differences.{sub_le_zero}
 use Rattle.schedules.proofs.EnumerationLaws.{Served, schedules_mem}
-use Rattle.schedules.specs.AsFunctions.{Rows, length_load, free, bound, forced_as, possible_as, sum_over_as, forced_tab, possible_tab, sum_over_tab, sound_bounded, bounded_sound}
+use Rattle.schedules.specs.AsFunctions.{Rows, free, bound}
+use Rattle.schedules.proofs.AsFunctions.{length_load, forced_as, possible_as, sum_over_as, forced_tab, possible_tab, sum_over_tab, sound_bounded, bounded_sound}
 
 module _ {slots : ℕ} {ds : List Demand} (w : Windows slots ds) where
   served_rows : {p : Schedule} → Served ds p → Rows slots p
@@ -44,7 +46,7 @@ module _ {slots : ℕ} {ds : List Demand} (w : Windows slots ds) where
         (rw (at_at_most low (load slots p) l k (λ t m. (s.bounded t m).0), at_at_most (load slots p) high k h (λ t m. (s.bounded t m).1)))
 
     -- (b) no obstacle, as functions and as lists
-    from_functions : B.NoObstacle (length ds) slots (free ds) (volume_of ds) (bound low) (bound high) → NoObstacle slots ds low high
+    from_functions : D.NoObstacle (length ds) slots (free ds) (volume_of ds) (bound low) (bound high) → NoObstacle slots ds low high
     unfolding shortfall excess
     from_functions o = record {
       ordered = o.ordered;
@@ -52,7 +54,7 @@ module _ {slots : ℕ} {ds : List Demand} (w : Windows slots ds) where
       no_excess = λ q e. (sub_le_zero (sum_over low q) (possible ds q)).1 (rw (possible_as w q e, sum_over_as low q l e) (o.no_excess _));
     }
 
-    to_functions : NoObstacle slots ds low high → B.NoObstacle (length ds) slots (free ds) (volume_of ds) (bound low) (bound high)
+    to_functions : NoObstacle slots ds low high → D.NoObstacle (length ds) slots (free ds) (volume_of ds) (bound low) (bound high)
     unfolding shortfall excess
     to_functions o = record {
       ordered = o.ordered;

@@ -12,3 +12,4 @@ pub mod OneSlot
 pub mod RestLaws
 pub mod Theorems
 pub mod WindowLaws
+pub mod AsFunctions

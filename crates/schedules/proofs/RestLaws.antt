@@ -18,7 +18,8 @@ use Rattle.theory.specs.Placing.{size}
 use Rattle.schedules.specs.Slots.{Slots, has}
 use Rattle.schedules.specs.Schedules.{Demand, Schedule, Sound, Windows, no_demand, window_of, volume_of, load}
 use Rattle.schedules.specs.Tabulate.{tab, length_tab, get_d_tab, tab_unique, count_size, count_tab, has_below}
-use Rattle.schedules.specs.AsFunctions.{fed, free, listed, load_as, sound_bounded, bounded_sound, BoundedBy}
+use Rattle.schedules.specs.AsFunctions.{fed, free, listed, BoundedBy}
+use Rattle.schedules.proofs.AsFunctions.{load_as, sound_bounded, bounded_sound}
 use Rattle.schedules.specs.Rest.{rest_of, rest_demands, rest_high, KeptBefore, SameBefore, together, no_feedings}
 
 -- a placing's feedings from slot c on

@@ -18,7 +18,8 @@ use Rattle.schedules.specs.Meanings.{meanings}
 use Rattle.schedules.proofs.ListLaws.{in_every}
 use Rattle.schedules.proofs.Differences.{le_of_le_z, sub_range}
 use Rattle.schedules.proofs.EnumerationLaws.{subsets_mem}
-use Rattle.schedules.specs.AsFunctions.{free, bound, forced_as, sum_over_as}
+use Rattle.schedules.specs.AsFunctions.{free, bound}
+use Rattle.schedules.proofs.AsFunctions.{forced_as, sum_over_as}
 use Rattle.schedules.proofs.FeasibleLaws.{feasible_sound, sound_feasible, sound_no_obstacle, no_obstacle_sound, sound_looser}
 use Rattle.schedules.proofs.CriticalLaws as Laws
 use Rattle.schedules.proofs.CauseLaws.{is_cause, no_cause}

@@ -9,6 +9,7 @@ use Rattle.common.specs.Tests.{true_or_false}
 use Rattle.theory.specs.Sums.{sum, sum_change}
 use Rattle.theory.specs.Placing.{count, Placing}
 use Rattle.theory.proofs.Move.{upd, upd_col, move, Shift, shift_trans, move_shift, move_placing}
+use Rattle.theory.specs.Optimum.{Between}
 use Rattle.theory.proofs.Edges.{Edge}
 use Rattle.theory.proofs.Layers.{layer, Step, in_layer, layer_in, layer_more, layer_mono}
 
@@ -63,10 +64,6 @@ module _ (n d : ℕ) (free : ℕ → ℕ → Bool) (high : ℕ → ℕ) where
   unfoldable pub overflow : (ℕ → ℕ → Bool) → ℕ
   overflow S = sum d (λ t. count n S t - high t)
 
-  -- the loads have gone towards the highs, and none past its high
-  abbrev pub Between : (S T : ℕ → ℕ → Bool) → Type 0
-  Between S T = (t : ℕ) → t < d → (min (count n S t) (high t) ≤ count n T t) × (count n T t ≤ max (count n S t) (high t))
-
   module _ {S T : ℕ → ℕ → Bool} {z u : ℕ} (p : Shift n S T z u) (lz : z < d) (full : high z < count n S z) (room : count n S u < high u) where
     pub shift_overflow : overflow T < overflow S
     unfolding overflow
@@ -77,7 +74,7 @@ module _ (n d : ℕ) (free : ℕ → ℕ → Bool) (high : ℕ → ℕ) where
         go w h (yes q) = rw q (omega (arith, p.to))
         go w h (no q) = rw (p.others w h q)
 
-    pub shift_between : Between S T
+    pub shift_between : Between n d free high S T
     shift_between t l = go (ℕ_discrete t z) (ℕ_discrete t u)
       where
         go : Dec (t ≡ z) → Dec (t ≡ u) → (min (count n S t) (high t) ≤ count n T t) × (count n T t ≤ max (count n S t) (high t))

@@ -10,7 +10,8 @@ use Rattle.theory.specs.Placing.{size, count, Placing, forced, possible, opposit
 use Rattle.theory.proofs.Row.{size_within}
 use Rattle.theory.proofs.Volumes.{forced_le_capacity, low_le_possible, fits_of_forced_none, possible_le_width}
 use Rattle.theory.proofs.Complement.{placing_rest, count_rest, shortfall_rest}
-use Rattle.theory.proofs.Augment.{Between}
+use Rattle.theory.specs.Optimum.{Between}
+use Rattle.theory.specs.Bounds.{Bounded, NoObstacle}
 use Rattle.theory.proofs.Optimum.{hall}
 
 -- Each job in its first free slots --------------------------------------------
@@ -38,16 +39,6 @@ earliest_placing {d} {free} {v} h = record {
 -- Both bounds -----------------------------------------------------------------
 
 module _ (n d : ℕ) (free : ℕ → ℕ → Bool) (v low high : ℕ → ℕ) where
-  -- a placing that keeps both bounds
-  abbrev pub Bounded : (ℕ → ℕ → Bool) → Type 0
-  Bounded T = Placing n d free v T × ((t : ℕ) → t < d → (low t ≤ count n T t) × (count n T t ≤ high t))
-
-  -- the condition of document 01, in numbers
-  pub record NoObstacle : Type 0 where
-    pub ordered : (t : ℕ) → t < d → low t ≤ high t
-    pub no_shortfall : (Q : ℕ → Bool) → forced n d free v Q ≤ sum_on d Q high
-    pub no_excess : (Q : ℕ → Bool) → sum_on d Q low ≤ possible n d free v Q
-
   -- the opposite of the opposite's placing has the volumes of S again
   placing_again : {S : ℕ → ℕ → Bool} → Placing n d free v S → {T : ℕ → ℕ → Bool} → Placing n d free (rest d free v) T → Placing n d free v (opposite free T)
   placing_again s t = record {
@@ -55,20 +46,20 @@ module _ (n d : ℕ) (free : ℕ → ℕ → Bool) (v low high : ℕ → ℕ) wh
     volume = λ j l. omega (arith, (placing_rest t).volume j l, s.volume j l, size_within (s.within j l));
   }
 
-  pub both_bounds : (S : ℕ → ℕ → Bool) → Placing n d free v S → ((t : ℕ) → t < d → low t ≤ count n free t) → NoObstacle
-      → (T : ℕ → ℕ → Bool) × Bounded T
+  pub both_bounds : (S : ℕ → ℕ → Bool) → Placing n d free v S → ((t : ℕ) → t < d → low t ≤ count n free t) → NoObstacle n d free v low high
+      → (T : ℕ → ℕ → Bool) × Bounded n d free v low high T
   both_bounds S s wide o = go (hall n d free high v S s o.no_shortfall)
     where
       high' : ℕ → ℕ
       high' t = count n free t - low t
 
       go : (T : ℕ → ℕ → Bool) × Placing n d free v T × ((t : ℕ) → t < d → count n T t ≤ high t) × Between n d free high S T
-          → (T : ℕ → ℕ → Bool) × Bounded T
+          → (T : ℕ → ℕ → Bool) × Bounded n d free v low high T
       go (T, t, b, x) = last (hall n d free high' (rest d free v) (opposite free T) (placing_rest t)
           (λ Q. omega (arith, o.no_excess Q, shortfall_rest n d free v Q low wide)))
         where
           last : (U : ℕ → ℕ → Bool) × Placing n d free (rest d free v) U × ((t : ℕ) → t < d → count n U t ≤ high' t) × Between n d free high' (opposite free T) U
-              → (T : ℕ → ℕ → Bool) × Bounded T
+              → (T : ℕ → ℕ → Bool) × Bounded n d free v low high T
           last (U, u, c, y) = (
             opposite free U,
             (placing_again t u, λ w l. omega (arith, o.ordered w l, wide w l, b w l, c w l, y w l, count_rest t w l, count_rest u w l)),
@@ -86,7 +77,7 @@ module _ (n d : ℕ) (free : ℕ → ℕ → Bool) (v low high : ℕ → ℕ) wh
       )
 
   -- document 000, lemma 12, with the condition that it leaves unsaid
-  pub bounded_iff : ((T : ℕ → ℕ → Bool) × Bounded T) ↔ NoObstacle
+  pub bounded_iff : ((T : ℕ → ℕ → Bool) × Bounded n d free v low high T) ↔ NoObstacle n d free v low high
   bounded_iff = (
     λ w. record {
       ordered = λ t l. omega (arith, w.1.1 t l);

@@ -5,3 +5,5 @@
 pub mod Sums
 pub mod SumsOver
 pub mod Placing
+pub mod Optimum
+pub mod Bounds
