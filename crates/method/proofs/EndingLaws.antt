@@ -21,7 +21,8 @@ use Rattle.method.specs.Slotwise.{keep_at, busy_from, settle_from, settle_each}
 use Rattle.method.specs.Endings.{EndedStretch, in_order, CauseOfKind, Explained, endings, settled_endings}
 use Rattle.method.specs.SlotwiseEndings.{ended_at, ended_from, ended_each}
 use Rattle.method.proofs.StepLaws.{keep_at_sized, other_possible, sound_possible, busy_at_stays, busy_at_changes}
-use Rattle.method.proofs.SlotwiseLaws.{keep_for_none, keep_for_suc, settle_slotwise}
+use Rattle.method.proofs.KeepForLaws.{keep_for_none}
+use Rattle.method.proofs.SlotwiseLaws.{keep_for_suc, settle_slotwise}
 use Rattle.method.proofs.SettleLaws.{settle_from_possible, loads_slotwise, counts_busy_from}
 use Rattle.method.proofs.SettledRunsLaws.{settled_runs_busy_from}
 

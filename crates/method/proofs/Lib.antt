@@ -16,6 +16,7 @@ pub mod RestDayLaws
 pub mod RunLaws
 pub mod SettleLaws
 pub mod SettledRunsLaws
+pub mod KeepForLaws
 pub mod SlotwiseLaws
 pub mod StepLaws
 pub mod StopsAtLaws

@@ -13,7 +13,8 @@ use Rattle.method.specs.Intervals.{Interval, join, runs, intervals}
 use Rattle.method.specs.Slotwise.{keep_at, busy_from}
 use Rattle.method.specs.SettledRuns.{stretch_of, settled_runs, bounds_at_turn}
 use Rattle.method.proofs.StepLaws.{keep_at_sized, other_possible, busy_at_stays, busy_at_changes}
-use Rattle.method.proofs.SlotwiseLaws.{keep_for_none, keep_for_suc, run, run_stays, run_changes, run_past, double, double_is, settle_slotwise}
+use Rattle.method.proofs.KeepForLaws.{keep_for_none}
+use Rattle.method.proofs.SlotwiseLaws.{keep_for_suc, run, run_stays, run_changes, run_past, double, double_is, settle_slotwise}
 use Rattle.method.proofs.SettleLaws.{settle_from_possible, settle_all_slotwise, counts_busy_from}
 
 -- A slot joined to what follows -----------------------------------------------

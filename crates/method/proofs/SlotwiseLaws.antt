@@ -13,30 +13,21 @@ use Rattle.schedules.specs.Schedules.{Demand, Windows}
 use Rattle.method.specs.Method.{Bounds, Sized, FeasibleDay, idle_for, busy_for, keep_for, longest, idle_run, busy_run, feasible_under, settle}
 use Rattle.method.specs.Slotwise.{keep_at, settle_from}
 use Rattle.method.proofs.RunLaws.{length_on_run, on_run_none, on_run_suc}
+use Rattle.method.proofs.KeepForLaws.{keep_for_none, keep_for_sized}
 use Rattle.method.proofs.LongestLaws.{longest_zero, longest_none, longest_suc}
 use Rattle.method.proofs.StepLaws.{Tighter, tighter_refl, tighter_trans, keep_at_sized, keep_at_tighter, tighter_possible, other_possible, settle_from_stays, settle_from_changes}
 
 -- A run, idle or busy ---------------------------------------------------------
 
 module _ (k : ℕ) where
-  pub keep_for_none : (busy : Bool) (t : ℕ) (b : Bounds) → keep_for k busy t b 0 ≡ b
-  unfolding idle_for busy_for
-  keep_for_none false t b = ap (λ (xs : List ℕ). record { low = b.low; high = xs }) (on_run_none t _ b.high)
-  keep_for_none true t b = ap (λ (xs : List ℕ). record { low = xs; high = b.high }) (on_run_none t _ b.low)
-
   pub keep_for_suc : (busy : Bool) (t : ℕ) (b : Bounds) (n : ℕ) → keep_for k busy (suc t) b (suc n) ≡ keep_for k busy (suc (suc t)) (keep_at k busy t b) n
   unfolding idle_for busy_for
   keep_for_suc false t b n = ap (λ (xs : List ℕ). record { low = b.low; high = xs }) (on_run_suc t n (min (k - 1)) b.high)
   keep_for_suc true t b n = ap (λ (xs : List ℕ). record { low = xs; high = b.high }) (on_run_suc t n (max k) b.low)
 
-  keep_for_sized : {slots : ℕ} (busy : Bool) (t : ℕ) {b : Bounds} (n : ℕ) → Sized slots b → Sized slots (keep_for k busy t b n)
-  unfolding idle_for busy_for
-  keep_for_sized false t {b} n s = record { each_low = s.each_low; each_high = length_on_run t n _ b.high ∙ s.each_high }
-  keep_for_sized true t {b} n s = record { each_low = length_on_run t n _ b.low ∙ s.each_low; each_high = s.each_high }
-
   -- a longer run is a stronger bound
   pub keep_for_tighter : {slots : ℕ} (busy : Bool) (t : ℕ) (b : Bounds) (n : ℕ) → Tighter slots b (keep_for k busy (suc t) b n)
-  keep_for_tighter busy t b zero = rw (keep_for_none busy (suc t) b) tighter_refl
+  keep_for_tighter busy t b zero = rw (keep_for_none k busy (suc t) b) tighter_refl
   keep_for_tighter busy t b (suc n) =
       rw (keep_for_suc busy t b n) (tighter_trans (keep_at_tighter k busy t b) (keep_for_tighter busy (suc t) (keep_at k busy t b) n))
 

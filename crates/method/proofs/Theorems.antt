@@ -16,7 +16,8 @@ use Rattle.method.specs.Worded.{settle_all_worded, runs_worded, bounds_worded}
 use Rattle.method.proofs.WordedLaws.{settle_all_worded_lem, runs_worded_lem, day_least}
 use Rattle.method.proofs.LongestLaws.{longest_passes, le_longest}
 use Rattle.method.proofs.StepLaws.{possible_sound, tighter_sound, other_possible}
-use Rattle.method.proofs.SlotwiseLaws.{keep_for_none, settle_slotwise}
+use Rattle.method.proofs.KeepForLaws.{keep_for_none}
+use Rattle.method.proofs.SlotwiseLaws.{settle_slotwise}
 use Rattle.method.proofs.SettleLaws as Settle
 use Rattle.method.proofs.SettledRunsLaws as Runs
 use Rattle.method.proofs.KeepingLaws as Keep
