@@ -1,5 +1,5 @@
 -- Records taken one after another are the records of the front of the list, and their sheet is that of these records. Assumes nothing.
-use Rattle.std.specs.Prelude.{◌≡◌, refl, List, [], ◌∷◌, ◌++◌, map, ℕ, zero, suc, min, ◌+◌, ◌-◌, ◌*◌, ◌≤◌, ◌<◌, length, get_or, take, set}
+use Rattle.std.specs.Prelude.{◌≡◌, refl, List, [], ◌∷◌, ◌++◌, map, ℕ, zero, suc, min, ◌+◌, ◌*◌, ◌≤◌, ◌<◌, length, get_or, take, set}
 use Rattle.std.proofs.Common.{sym, ap, ap₂, ◌∙◌, add-one, arith, length-take, take-suc, take_at, length-take-le}
 use Rattle.std.proofs.lemmas.List.{map-append, length-map}
 use Rattle.common.specs.ListLaws.{flat_map_append}
@@ -29,7 +29,7 @@ front_suc : (rs : List Ration) (i : ℕ) → i < length rs → front rs (suc i) 
 unfolding numbers_of job_of
 front_suc rs i h =
     ap (λ l. numbers_of (map job_of l)) (take-suc rs i no_ration h) ∙ ap numbers_of (map-append job_of (take i rs) (get_or rs i no_ration ∷ []))
-    ∙ flat_map_append _ (map job_of (take i rs)) (job_of (get_or rs i no_ration) ∷ [])
+    ∙ flat_map_append job_numbers (map job_of (take i rs)) (job_of (get_or rs i no_ration) ∷ [])
 
 -- the four stores of `added`
 abbrev stored : List ℕ → ℕ → Ration → List ℕ

@@ -1,0 +1,8 @@
+-- `records::flats::add` meets its contract. Assumes nothing.
+use Rattle.std.proofs.Common.{rules}
+use Rattle.records.specs.Flat.{added}
+use Rattle.records.proofs.flats.add.Goals as goal
+
+pub returns : goal.returns
+unfolding added
+returns c = search rules
