@@ -12,7 +12,7 @@ use Rattle.energy.specs.EnergyLaws.{length_intervals}
 use Rattle.plan_lines.specs.Lines.{Line, stretch_line, blower_lines, stretch_lines, part_at, slot_lines, feed_lines}
 use Rattle.plan_lines.specs.Inputs.{tanks_of, row_of, placing_of}
 use Rattle.plan_lines.specs.SetBits.{set_bits}
-use Rattle.plan_lines.specs.FeedLaws.{length_word_lines, slot_lines_word}
+use Rattle.plan_lines.proofs.FeedLaws.{length_word_lines, slot_lines_word}
 
 -- as many lines for each of n numbers as c at most
 pub length_flat_map_range : (f : ℕ → List Line) (c a n : ℕ) → ((k : ℕ) → a ≤ k → k < a + n → length (f k) ≤ c) → length (flat_map f (range a n)) ≤ n * c

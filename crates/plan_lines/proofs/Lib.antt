@@ -1,2 +1,4 @@
 pub mod LengthLaws
 pub mod PlacingFormLaws
+pub mod FeedLaws
+pub mod FeedSteps

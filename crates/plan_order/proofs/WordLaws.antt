@@ -7,7 +7,8 @@ use Rattle.schedules.specs.Slots.{Slots}
 use Rattle.plan_lines.specs.Lines.{Line, Plan, part_at, fed_in, feed_line, slot_lines}
 use Rattle.plan_lines.specs.Inputs.{tank_at, tanks_of, row_of, placing_of}
 use Rattle.plan_lines.specs.SetBits.{set_bits}
-use Rattle.plan_lines.specs.FeedLaws.{word_lines, slot_lines_word}
+use Rattle.plan_lines.specs.FeedLaws.{word_lines}
+use Rattle.plan_lines.proofs.FeedLaws.{slot_lines_word}
 use Rattle.plan_order.specs.Order.{tanks_in}
 
 -- On feed lines -------------------------------------------------------------------------

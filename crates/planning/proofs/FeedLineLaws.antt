@@ -24,7 +24,7 @@ use Rattle.schedules.proofs.DemandLaws.{no_job}
 use Rattle.plan_lines.specs.Lines.{Line, part_at, fed_in, feed_line, slot_lines, feed_lines, members_from}
 use Rattle.planning.specs.ReadListing.{slot_set, in_slot, of_tank, is_of, of_meal, placing_on}
 use Rattle.planning.proofs.ListLaws.{in_range, flat_map_range_cong, flat_map_range_one, keep_all, keep_none, keep_flat_map, map_flat_map, in_zip_with, at_zip_with}
-use Rattle.plan_lines.specs.FeedLaws.{count_take, count_take_le}
+use Rattle.plan_lines.proofs.FeedLaws.{count_take, count_take_le}
 use Rattle.plan_lines.proofs.LengthLaws.{length_flat_map_range}
 use Rattle.planning.proofs.SlotSetLaws.{slot_set_members, members_from_slots}
 use Rattle.planning.proofs.SlotLineLaws.{ration_rows, lines_from, blowers_from, length_lines_from, of_slot, length_fed_in, lines_at_most_one, lines_one}

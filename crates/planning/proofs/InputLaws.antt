@@ -23,7 +23,8 @@ use Rattle.plan_lines.specs.PlacingForms.{word_of, words_of}
 use Rattle.plan_lines.proofs.PlacingFormLaws.{bit_word_of, word_of_few, length_words_of, get_d_words_of, words_are, one_is}
 use Rattle.plan_lines.specs.Inputs.{tank_at, tanks_of, row_of, placing_of, set_of}
 use Rattle.plan_lines.specs.SetBits.{set_bits_past}
-use Rattle.plan_lines.specs.FeedLaws.{word_lines, slot_lines_word, has_row_of}
+use Rattle.plan_lines.specs.FeedLaws.{word_lines}
+use Rattle.plan_lines.proofs.FeedLaws.{slot_lines_word, has_row_of}
 use Rattle.listing.specs.PlanSteps.{plan_of}
 
 -- Sets and placings by place ---------------------------------------------------------

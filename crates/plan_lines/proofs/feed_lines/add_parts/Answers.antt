@@ -2,7 +2,7 @@
 -- Assumes nothing.
 use native.Mathlib.Omega.{arith}
 use Rattle.bits.specs.Lowest.{lowest_less}
-use Rattle.plan_lines.specs.FeedSteps.{parts_begin, parts_few, parts_more, parts_end}
+use Rattle.plan_lines.proofs.FeedSteps.{parts_begin, parts_few, parts_more, parts_end}
 use Rattle.plan_lines.proofs.feed_lines.add_parts.Goals as goal
 
 pub loop-rest-init : goal.loop-rest-init

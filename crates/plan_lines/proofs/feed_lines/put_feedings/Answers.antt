@@ -2,7 +2,7 @@
 -- all. Assumes nothing.
 use Prim.Native.Nat.{◌-◌}
 use native.Mathlib.Omega.{arith}
-use Rattle.plan_lines.specs.FeedSteps.{feedings_begin, feedings_can_add, feedings_can_slot, feedings_more, feedings_end}
+use Rattle.plan_lines.proofs.FeedSteps.{feedings_begin, feedings_can_add, feedings_can_slot, feedings_more, feedings_end}
 use Rattle.plan_lines.proofs.feed_lines.put_feedings.Goals as goal
 
 pub loop-t-init : goal.loop-t-init

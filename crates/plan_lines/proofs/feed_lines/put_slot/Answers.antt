@@ -2,7 +2,7 @@
 -- Assumes nothing.
 use native.Mathlib.Omega.{arith}
 use Rattle.bits.specs.Lowest.{lowest_less}
-use Rattle.plan_lines.specs.FeedSteps.{slot_begin, slot_few, feeding_can, slot_more, slot_end}
+use Rattle.plan_lines.proofs.FeedSteps.{slot_begin, slot_few, feeding_can, slot_more, slot_end}
 use Rattle.plan_lines.proofs.feed_lines.put_slot.Goals as goal
 
 pub loop-rest-init : goal.loop-rest-init
