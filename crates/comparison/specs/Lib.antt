@@ -1,5 +1,6 @@
 -- Definitions
 pub mod Comparison
 pub mod OnListings
+
 -- The theorems a reader looks for
 -- Laws

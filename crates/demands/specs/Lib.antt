@@ -14,4 +14,5 @@ pub mod Comparison
 pub mod Causes
 pub mod Halls
 pub mod Shares
+
 -- Laws

@@ -1,3 +1,4 @@
 -- Definitions
 pub mod Densities
+
 -- Laws

@@ -35,8 +35,8 @@ loop-t-preserved c = let marks = c.args.marks.now in
     let t = c.loop-t.t in
     let e : c.if-marks-t-eq1.n ≡ marked_to marks (t + 1) =
     elim c.if-marks-t-eq1.branch [
-        then-marks-t-eq1 w ↦ omega (arith, count_hit marks t (omega arith) w.if-marks-t-eq1.true)
-        | else-marks-t-eq1 w ↦ omega (arith, count_miss marks t (omega arith) w.if-marks-t-eq1.false)
+      | then-marks-t-eq1 w ↦ omega (arith, count_hit marks t (omega arith) w.if-marks-t-eq1.true)
+      | else-marks-t-eq1 w ↦ omega (arith, count_miss marks t (omega arith) w.if-marks-t-eq1.false)
     ] in
     let l : c.if-marks-t-eq1.n ≤ t + 1 = elim c.if-marks-t-eq1.branch [ then-marks-t-eq1 w ↦ omega arith | else-marks-t-eq1 w ↦ omega arith ] in
     (omega arith, l, e, filled_next (suc max_slots) (marked_to marks) (t + 1) _ c.loop-t.invariant.3 (omega arith) _ e)

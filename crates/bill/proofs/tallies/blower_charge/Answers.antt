@@ -17,13 +17,13 @@ with_stretch-tally-requires c = tallied_to_can c.requires c.loop-from.invariant
 
 pub loop-from-smaller : goal.loop-from-smaller
 loop-from-smaller c = omega (
-      arith,
-      (found
-          c.requires.counted
-          c.loop-from-test.true
-          c.stretch_at-stretch.ensures).ends.after,
-      c.loop-from-test.true,
-    )
+  arith,
+  (found
+      c.requires.counted
+      c.loop-from-test.true
+      c.stretch_at-stretch.ensures).ends.after,
+  c.loop-from-test.true,
+)
 
 pub loop-from-preserved : goal.loop-from-preserved
 loop-from-preserved c = tallied_to_more c.requires c.loop-from.invariant

@@ -6,7 +6,7 @@ use Rattle.energy.proofs.states.stretch_at.Goals as goal
 pub returns : goal.returns
 unfolding listed
 returns c = rw (
-      stretch_at_ends _ c.stretch_end-last.ensures,
-      c.stretch_state-state.ensures,
-      c.is_busy-busy.ensures,
-    )
+  stretch_at_ends _ c.stretch_end-last.ensures,
+  c.stretch_state-state.ensures,
+  c.is_busy-busy.ensures,
+)

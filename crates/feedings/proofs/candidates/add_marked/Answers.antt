@@ -8,6 +8,6 @@ returns-then-mark-eq0 c = record { old = λ k e. e; new = λ l. absurd (omega (a
 
 pub returns : goal.returns
 returns c = record {
-      old = λ k e. omega (arith, bit_or_lem c.args.word c.args.fed k, e, bit_lt c.args.fed k);
-      new = λ l k e. omega (arith, bit_or_lem c.args.word c.args.fed k, e, bit_lt c.args.word k);
-    }
+  old = λ k e. omega (arith, bit_or_lem c.args.word c.args.fed k, e, bit_lt c.args.fed k);
+  new = λ l k e. omega (arith, bit_or_lem c.args.word c.args.fed k, e, bit_lt c.args.word k);
+}

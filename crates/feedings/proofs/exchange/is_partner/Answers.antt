@@ -9,6 +9,6 @@ returns-then-not-has_bit c = record { has = λ e. absurd (false≢true e); edge 
 
 pub returns : goal.returns
 returns c = record {
-      has = λ e. eqb-true _ _ (sym c.has_bit.ensures ∙ c.if-not-has_bit.false);
-      edge = λ e. eqb-false _ _ (not-true _ e);
-    }
+  has = λ e. eqb-true _ _ (sym c.has_bit.ensures ∙ c.if-not-has_bit.false);
+  edge = λ e. eqb-false _ _ (not-true _ e);
+}

@@ -23,12 +23,12 @@ drop_bit-b-requires c = (c.requires.0.ration, eqb-true _ _ (sym c.has_bit-2.ensu
 
 pub feed_resting-requires : goal.feed_resting-requires
 feed_resting-requires c = let h = eqb-true _ _ (sym c.has_bit-2.ensures ∙ c.if-not-has_bit.false) in (
-      askable c.requires.0 (eqb-false _ _ (sym c.has_bit.ensures ∙ c.if-has_bit.false)) _ h c.drop_bit-b.ensures,
-      may_out_rest c.requires.0 h c.drop_bit-b.ensures c.requires.1,
-    )
+  askable c.requires.0 (eqb-false _ _ (sym c.has_bit.ensures ∙ c.if-has_bit.false)) _ h c.drop_bit-b.ensures,
+  may_out_rest c.requires.0 h c.drop_bit-b.ensures c.requires.1,
+)
 
 pub returns : goal.returns
 returns c = let h = eqb-true _ _ (sym c.has_bit-2.ensures ∙ c.if-not-has_bit.false) in (
-      decided_asked c.requires.0 (eqb-false _ _ (sym c.has_bit.ensures ∙ c.if-has_bit.false)) _ h c.drop_bit-b.ensures c.feed_resting.ensures.0,
-      c.feed_resting.ensures.1,
-    )
+  decided_asked c.requires.0 (eqb-false _ _ (sym c.has_bit.ensures ∙ c.if-has_bit.false)) _ h c.drop_bit-b.ensures c.feed_resting.ensures.0,
+  c.feed_resting.ensures.1,
+)

@@ -12,7 +12,7 @@ returns-then-mark-ne0 c = record { edge = λ e. clash' e; new = λ e. clash' e; 
 
 pub returns : goal.returns
 returns c = record {
-      edge = λ e. c.if-both-eq0.false;
-      new = λ e. c.if-mark-ne0.false;
-      room = λ e. ltb-true _ _ (sym c.has_room.ensures ∙ e);
-    }
+  edge = λ e. c.if-both-eq0.false;
+  new = λ e. c.if-mark-ne0.false;
+  room = λ e. ltb-true _ _ (sym c.has_room.ensures ∙ e);
+}

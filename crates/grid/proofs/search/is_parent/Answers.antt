@@ -13,6 +13,6 @@ returns-then-greater-number c = record { is = λ e. clash' e; not = λ e h k. ab
 
 pub returns : goal.returns
 returns c = record {
-      is = λ e. (pos_of_ne-zero c.if-number-eq0.false, c.if-greater-number.false, eqb-false _ _ (not-true _ e));
-      not = λ e h k. eqb-true _ _ (not-false _ e);
-    }
+  is = λ e. (pos_of_ne-zero c.if-number-eq0.false, c.if-greater-number.false, eqb-false _ _ (not-true _ e));
+  not = λ e h k. eqb-true _ _ (not-false _ e);
+}

@@ -8,12 +8,12 @@ put_members-n-requires c = held_can c.requires c.put_word.ensures
 
 pub overflow_cast-n : goal.overflow_cast-n
 overflow_cast-n c = omega (
-      arith,
-      held_few
-          c.requires
-          c.put_word.ensures
-          c.put_members-n.ensures,
-    )
+  arith,
+  held_few
+      c.requires
+      c.put_word.ensures
+      c.put_members-n.ensures,
+)
 
 pub put_line-requires : goal.put_line-requires
 put_line-requires c = held_room
@@ -23,30 +23,30 @@ put_line-requires c = held_room
 
 pub overflow_add-result : goal.overflow_add-result
 overflow_add-result c = omega (
-      arith,
-      held_few
-          c.requires
-          c.put_word.ensures
-          c.put_members-n.ensures,
-    )
+  arith,
+  held_few
+      c.requires
+      c.put_word.ensures
+      c.put_members-n.ensures,
+)
 
 pub overflow_mul-result : goal.overflow_mul-result
 overflow_mul-result c = omega (
-      arith,
-      held_few
-          c.requires
-          c.put_word.ensures
-          c.put_members-n.ensures,
-    )
+  arith,
+  held_few
+      c.requires
+      c.put_word.ensures
+      c.put_members-n.ensures,
+)
 
 pub overflow_add-result-2 : goal.overflow_add-result-2
 overflow_add-result-2 c = omega (
-      arith,
-      held_few
-          c.requires
-          c.put_word.ensures
-          c.put_members-n.ensures,
-    )
+  arith,
+  held_few
+      c.requires
+      c.put_word.ensures
+      c.put_members-n.ensures,
+)
 
 pub returns : goal.returns
 returns c = held_written

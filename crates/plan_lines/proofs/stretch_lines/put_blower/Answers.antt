@@ -14,42 +14,42 @@ stretch_at-stretch-requires c = (c.requires.counted, c.loop-from-test.true)
 
 pub overflow_mul-n : goal.overflow_mul-n
 overflow_mul-n c = omega (
-      arith,
-      blower_room
-          c.requires
-          c.loop-from.invariant
-          c.loop-from-test.true,
-    )
+  arith,
+  blower_room
+      c.requires
+      c.loop-from.invariant
+      c.loop-from-test.true,
+)
 
 pub overflow_add-at : goal.overflow_add-at
 overflow_add-at c = omega (
-      arith,
-      blower_room
-          c.requires
-          c.loop-from.invariant
-          c.loop-from-test.true,
-    )
+  arith,
+  blower_room
+      c.requires
+      c.loop-from.invariant
+      c.loop-from-test.true,
+)
 
 pub overflow_cast-stretch : goal.overflow_cast-stretch
 overflow_cast-stretch c = omega (
-      arith,
-      (found
-          c.requires.counted
-          c.loop-from-test.true
-          c.stretch_at-stretch.ensures).begins,
-      c.loop-from-test.true,
-      c.requires.counted.day,
-    )
+  arith,
+  (found
+      c.requires.counted
+      c.loop-from-test.true
+      c.stretch_at-stretch.ensures).begins,
+  c.loop-from-test.true,
+  c.requires.counted.day,
+)
 
 pub overflow_cast-stretch-in-loop-from : goal.overflow_cast-stretch-in-loop-from
 overflow_cast-stretch-in-loop-from c = omega (
-      arith,
-      (found
-          c.requires.counted
-          c.loop-from-test.true
-          c.stretch_at-stretch.ensures).ends.within,
-      c.requires.counted.day,
-    )
+  arith,
+  (found
+      c.requires.counted
+      c.loop-from-test.true
+      c.stretch_at-stretch.ensures).ends.within,
+  c.requires.counted.day,
+)
 
 pub put_line-requires : goal.put_line-requires
 put_line-requires c = blower_room
@@ -59,22 +59,22 @@ put_line-requires c = blower_room
 
 pub overflow_add-n : goal.overflow_add-n
 overflow_add-n c = omega (
-      arith,
-      blower_room
-          c.requires
-          c.loop-from.invariant
-          c.loop-from-test.true,
-    )
+  arith,
+  blower_room
+      c.requires
+      c.loop-from.invariant
+      c.loop-from-test.true,
+)
 
 pub loop-from-smaller : goal.loop-from-smaller
 loop-from-smaller c = omega (
-      arith,
-      (found
-          c.requires.counted
-          c.loop-from-test.true
-          c.stretch_at-stretch.ensures).ends.after,
-      c.loop-from-test.true,
-    )
+  arith,
+  (found
+      c.requires.counted
+      c.loop-from-test.true
+      c.stretch_at-stretch.ensures).ends.after,
+  c.loop-from-test.true,
+)
 
 pub loop-from-preserved : goal.loop-from-preserved
 loop-from-preserved c = blower_more

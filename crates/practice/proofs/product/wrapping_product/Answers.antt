@@ -13,9 +13,9 @@ loop-left-smaller c = omega (arith, c.loop-left-test.true)
 
 pub loop-left-preserved : goal.loop-left-preserved
 loop-left-preserved c = product_next c.args.x c.args.y c.loop-left.sum c.loop-left.left c.loop-left.doubled c.loop-left.invariant _ _ (elim c.if-left-eq1.branch [
-        then-left-eq1 w ↦ inl (w.if-left-eq1.true, w.sum-is ∙ w.wrapping_add_u32-sum.ensures.value)
-        | else-left-eq1 w ↦ inr (w.if-left-eq1.false, w.sum-is)
-    ]) c.wrapping_add_u32-doubled.ensures.value
+  | then-left-eq1 w ↦ inl (w.if-left-eq1.true, w.sum-is ∙ w.wrapping_add_u32-sum.ensures.value)
+  | else-left-eq1 w ↦ inr (w.if-left-eq1.false, w.sum-is)
+]) c.wrapping_add_u32-doubled.ensures.value
 
 pub returns : goal.returns
 returns c = product_end c.args.x c.args.y c.loop-left.sum c.loop-left.left c.loop-left.doubled c.loop-left.invariant c.loop-left-test.false

@@ -27,17 +27,17 @@ bounds-before-slots c = omega (arith, slots_few c.requires.read c.args.marks.now
 
 pub overflow_mul-capacity : goal.overflow_mul-capacity
 overflow_mul-capacity c = omega (
-      arith,
-      capacity_most c.requires.read _ c.if-sheet-ne0.false (sym c.if-is_faulty.false ∙ c.is_faulty.ensures) _ c.counts_before-before.ensures,
-    )
+  arith,
+  capacity_most c.requires.read _ c.if-sheet-ne0.false (sym c.if-is_faulty.false ∙ c.is_faulty.ensures) _ c.counts_before-before.ensures,
+)
 
 pub difference-requires : goal.difference-requires
 difference-requires c = omega (
-      arith,
-      forced_most c.requires.read _ c.if-sheet-ne0.false (sym c.if-is_faulty.false ∙ c.is_faulty.ensures) _ c.counts_before-before.ensures,
-      c.forced-f.ensures,
-      capacity_most c.requires.read _ c.if-sheet-ne0.false (sym c.if-is_faulty.false ∙ c.is_faulty.ensures) _ c.counts_before-before.ensures,
-    )
+  arith,
+  forced_most c.requires.read _ c.if-sheet-ne0.false (sym c.if-is_faulty.false ∙ c.is_faulty.ensures) _ c.counts_before-before.ensures,
+  c.forced-f.ensures,
+  capacity_most c.requires.read _ c.if-sheet-ne0.false (sym c.if-is_faulty.false ∙ c.is_faulty.ensures) _ c.counts_before-before.ensures,
+)
 
 pub returns : goal.returns
 returns c = λ own s h.

@@ -10,10 +10,10 @@ use Rattle.shares.proofs.calls.plan_share.Goals as goal
 
 pub returns-then-sheet-ne0 : goal.returns-then-sheet-ne0
 returns-then-sheet-ne0 c = let u = share_refused_lem c.args.b.now c.args.listing.now c.args.placing.now (bytes_read _ c.read-sheet.ensures) c.if-sheet-ne0.true in record {
-      value = c.refuse_share.ensures ∙ u.answer;
-      listing_bytes = u.listed;
-      placing_bytes = u.placed;
-    }
+  value = c.refuse_share.ensures ∙ u.answer;
+  listing_bytes = u.listed;
+  placing_bytes = u.placed;
+}
 
 pub returns-then-listing-lt-PLAN_BYTES : goal.returns-then-listing-lt-PLAN_BYTES
 returns-then-listing-lt-PLAN_BYTES c = let listing = c.args.listing.now in
