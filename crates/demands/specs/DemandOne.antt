@@ -192,5 +192,3 @@ pub record DemandOne : Type 0 where
   pub hall_is : (limit : ℕ) (used : List ℕ) (h : Hall) → HallIs limit used h
   -- a sheet cut to a share: the rations in their places, with volume × share / 100, rounded down
   pub cut_is : (share : ℕ) (s : Sheet) → CutIs share s
-
--- The theorem -------------------------------------------------------------------------------------

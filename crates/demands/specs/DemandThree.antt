@@ -124,5 +124,3 @@ pub record DemandThree : Type 0 where
   -- the sum of high over the slots shown is |Q| × m
   pub high_is : (s : Sheet) (number : ℕ) (listing : List ℕ) → Outcome (alone s) number listing → number ≡ no_placing
       → (head_line (lines_of listing)).d ≡ (head_line (lines_of listing)).b * s.blowers
-
--- The theorem -------------------------------------------------------------------------------------

@@ -142,5 +142,3 @@ pub record DemandTwo : Type 0 where
       let w = practice_refusal seed (length out) in let b = take (written_of w s).length (buffer_after w s out) in
       let r = plan_refusal b (short_plan listing) in let text = listing_of (alone (sheet_of b)) in let a = listed_answer r text in
       (a.number ≡ 0) × ByMethod p (lines_of (written a (listing_after r text listing)))
-
--- The theorem -------------------------------------------------------------------------------------

@@ -1,5 +1,6 @@
 -- What is demanded of all calls. "Document 01" in these files is what docs/specification.md says; docs/demands.md leads
--- from each part of a demand to its statement here. The three demands, each a theorem over all calls
+-- from each part of a demand to its statement here. The three demands, each a record over all calls that a theorem of
+-- proofs/ has
 pub mod DemandOne
 pub mod DemandTwo
 pub mod DemandThree
@@ -14,5 +15,3 @@ pub mod Comparison
 pub mod Causes
 pub mod Halls
 pub mod Shares
-
--- Laws
