@@ -9,7 +9,8 @@ use native.Mathlib.Omega.{arith}
 use Rattle.std.proofs.lemmas.List.{length-replicate}
 use Rattle.common.specs.Lists.{range, sum}
 use Rattle.method.specs.Intervals.{intervals}
-use Rattle.method.proofs.FrontRunLaws.{stretches_from, stretches_from_begin, stretches_from_end}
+use Rattle.method.specs.FrontRunLaws.{stretches_from}
+use Rattle.method.proofs.FrontRunLaws.{stretches_from_begin, stretches_from_end}
 use Rattle.energy.specs.Energy.{listed, listed_for}
 use Rattle.energy.specs.Usage.{CanCharge}
 use Rattle.energy.specs.StretchLaws.{Found}

@@ -14,7 +14,7 @@ use Rattle.method.proofs.EndingLaws.{endings_by_method, endings_explained, endin
 use Rattle.cause_lines.specs.Entries.{entries_text}
 use Rattle.endings.specs.DayCauses.{day_endings}
 use Rattle.planning.specs.Problem.{Problem, left, room, ProblemInRange, can_be_planned, settled_counts, counts_of}
-use Rattle.planning.proofs.ReadLaws.{FitLines}
+use Rattle.planning.specs.ReadLaws.{FitLines}
 use Rattle.planning.proofs.ProblemLaws.{windows_left, possible, counts_whole}
 use Rattle.causes.specs.CauseCalls.{endings_of}
 use Rattle.causes.specs.ReadCauses.{entries_in, entry_of}

@@ -17,7 +17,8 @@ use Rattle.plan_lines.specs.Putting.{length_write_lines, write_lines_append}
 use Rattle.listing.specs.HeldSteps.{length_member_lines}
 use Rattle.cause_lines.specs.Entries.{entry_lines, entry_text, entries_text}
 use Rattle.planning.specs.ReadListing.{lines_in}
-use Rattle.planning.proofs.ReadLaws.{FitsLine, FitLines, lines_in_written}
+use Rattle.planning.specs.ReadLaws.{FitsLine, FitLines}
+use Rattle.planning.proofs.ReadLaws.{lines_in_written}
 use Rattle.causes.specs.ReadCauses.{entries_on, entries_in, entry_of}
 
 -- the lines of an entry, and of entries one after another

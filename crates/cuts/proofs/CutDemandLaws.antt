@@ -7,7 +7,8 @@ use Rattle.schedules.specs.Slots.{window}
 use Rattle.schedules.specs.Schedules.{window_of, volume_of}
 use Rattle.schedules.specs.Demands.{demands_of}
 use Rattle.schedules.specs.Tabulate.{get_d_map_below}
-use Rattle.schedules.proofs.DemandLaws.{no_job, length_demands_of, window_of_demands_of, volume_of_demands_of}
+use Rattle.schedules.specs.DemandLaws.{no_job}
+use Rattle.schedules.proofs.DemandLaws.{length_demands_of, window_of_demands_of, volume_of_demands_of}
 use Rattle.cuts.specs.Cuts.{cut_volume, cut_job, cut_sheet}
 
 -- the windows of a cut sheet are those of the sheet

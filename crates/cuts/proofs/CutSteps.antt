@@ -16,7 +16,8 @@ use Rattle.sheet.specs.declared.Reading.{Reading}
 use Rattle.sheet.specs.Calls.{accepted}
 use Rattle.sheet.specs.OwnChecks.{ReadFrom, ReadSheet}
 use Rattle.sheet.proofs.OwnCheckLaws.{read_is, read_values}
-use Rattle.schedules.proofs.DemandLaws.{no_job, length_demands_of, volume_of_demands_of, demands_of_in_range}
+use Rattle.schedules.specs.DemandLaws.{no_job}
+use Rattle.schedules.proofs.DemandLaws.{length_demands_of, volume_of_demands_of, demands_of_in_range}
 use Rattle.cuts.specs.Cuts.{cut_volume, cut_job, cut_sheet}
 use Rattle.cuts.specs.Clauses.{CutFrom}
 

@@ -19,7 +19,8 @@ use Rattle.theory.specs.Placing as F
 use Rattle.schedules.specs.Slots.{has, window}
 use Rattle.schedules.specs.Schedules.{Demand, window_of, volume_of}
 use Rattle.schedules.specs.Demands.{demands_of, no_low, full_high}
-use Rattle.schedules.proofs.DemandLaws.{DemandsInRange, demands_of_in_range}
+use Rattle.schedules.specs.DemandLaws.{DemandsInRange}
+use Rattle.schedules.proofs.DemandLaws.{demands_of_in_range}
 use Rattle.schedules.specs.Tabulate.{count_size}
 use Rattle.schedules.proofs.WindowLaws.{has_window, count_window}
 use Rattle.schedules.specs.AsFunctions.{free, bound}

@@ -20,7 +20,7 @@ use Rattle.schedules.specs.Schedules.{Schedule, load}
 use Rattle.schedules.specs.Demands.{no_low}
 use Rattle.schedules.proofs.Theorems as Placing
 use Rattle.schedules.specs.Tabulate.{has_below}
-use Rattle.schedules.proofs.DemandLaws.{no_job}
+use Rattle.schedules.specs.DemandLaws.{no_job}
 use Rattle.method.specs.Intervals.{Interval}
 use Rattle.method.specs.Keeping.{Before}
 use Rattle.method.proofs.Theorems.{counts_keep}

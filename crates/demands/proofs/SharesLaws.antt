@@ -14,7 +14,7 @@ use Rattle.checks.specs.Checks.{first_refusal, faults}
 use Rattle.checks.specs.CallChecks.{buffer_checks}
 use Rattle.checks.specs.RangeLaws.{ValuesInRange}
 use Rattle.sheet.proofs.OwnCheckLaws.{bytes_checked}
-use Rattle.schedules.proofs.DemandLaws.{no_job}
+use Rattle.schedules.specs.DemandLaws.{no_job}
 use Rattle.cuts.specs.Cuts.{max_share, cut_job, cut_sheet, greatest_share}
 use Rattle.cuts.proofs.Theorems.{rounded_down, rations_cut, share_most, share_least}
 use Rattle.plan_lines.specs.Sizes.{plan_bytes, placing_words}

@@ -13,7 +13,7 @@ use Rattle.schedules.specs.Slots.{Slots, has}
 use Rattle.schedules.specs.Schedules.{Schedule, Sound, load, volume_of}
 use Rattle.schedules.specs.Shortfall.{forced, capacity, shortfall}
 use Rattle.schedules.specs.Demands.{demands_of, no_low, full_high}
-use Rattle.schedules.proofs.DemandLaws.{no_job}
+use Rattle.schedules.specs.DemandLaws.{no_job}
 use Rattle.method.specs.Intervals.{Interval, intervals}
 use Rattle.method.specs.Keeping.{Keeps, Carries, Before, with_no_slots}
 use Rattle.energy.specs.Energy.{starts, energy}

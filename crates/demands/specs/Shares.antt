@@ -3,7 +3,7 @@
 -- only. Assumes nothing.
 use Rattle.std.specs.Prelude.{◌≡◌, List, ℕ, ◌+◌, ◌*◌, ◌≤◌, ◌<◌, length, get_or, take}
 use Rattle.checks.specs.Sheet.{Job, Sheet, sheet_of}
-use Rattle.schedules.proofs.DemandLaws.{no_job}
+use Rattle.schedules.specs.DemandLaws.{no_job}
 use Rattle.cuts.specs.Cuts.{cut_sheet}
 use Rattle.planning.specs.Problem.{Problem, alone}
 use Rattle.shares.specs.declared.SharePlanned.{SharePlanned}

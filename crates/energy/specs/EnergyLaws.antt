@@ -9,7 +9,8 @@ use Rattle.std.proofs.lemmas.List.{length-map}
 use Rattle.common.specs.Lists.{range, sum}
 use Rattle.checks.specs.Limits.{max_wake}
 use Rattle.method.specs.Intervals.{Interval, join, runs, intervals, size}
-use Rattle.method.proofs.FrontRunLaws.{stretch, front_run, runs_front}
+use Rattle.method.specs.FrontRunLaws.{stretch, front_run}
+use Rattle.method.proofs.FrontRunLaws.{runs_front}
 use Rattle.energy.specs.Energy.{state, on_in, on_slots, start_at, starts_from, starts_of, starts, on, energy}
 
 -- Stretches --------------------------------------------------------------------

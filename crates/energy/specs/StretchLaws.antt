@@ -8,7 +8,8 @@ use Rattle.std.proofs.Math.ListN.{get_or}
 use Rattle.std.proofs.lemmas.List.{length-map}
 use Rattle.common.specs.Lists.{part}
 use Rattle.method.specs.Intervals.{busy_in}
-use Rattle.method.proofs.FrontRunLaws.{stretch, front_run, busy_from, EndsAt, ends_at_front_run}
+use Rattle.method.specs.FrontRunLaws.{stretch, front_run, busy_from, EndsAt}
+use Rattle.method.proofs.FrontRunLaws.{ends_at_front_run}
 use Rattle.energy.specs.Energy.{listed}
 use Rattle.energy.specs.Usage.{no_stretch, stretch_at, Day}
 use Rattle.energy.specs.declared.Stretch.{Stretch}

@@ -3,7 +3,7 @@
 use Rattle.std.specs.Prelude.{◌≡◌, List, map, ℕ, ◌≤◌, length, get_or}
 use Rattle.checks.specs.Limits.{max_wake}
 use Rattle.method.specs.Intervals.{Interval}
-use Rattle.method.proofs.FrontRunLaws.{stretches_from}
+use Rattle.method.specs.FrontRunLaws.{stretches_from}
 use Rattle.energy.specs.Energy.{listed, on_slots, starts_of, starts, energy}
 use Rattle.energy.specs.declared.Stretch.{Stretch}
 use Rattle.energy.specs.declared.BlowerUse.{BlowerUse}

@@ -11,7 +11,8 @@ use borrow.Author.Tests.{eq-eqb, ne_eqb, le-leb, lt-leb}
 use Rattle.common.specs.Lists.{range, sum}
 use Rattle.checks.specs.Limits.{max_wake}
 use Rattle.method.specs.Intervals.{Interval, intervals, size, busy_in}
-use Rattle.method.proofs.FrontRunLaws.{stretch, stretches_from, stretches_from_begin, stretches_from_end, EndsAt}
+use Rattle.method.specs.FrontRunLaws.{stretch, stretches_from, EndsAt}
+use Rattle.method.proofs.FrontRunLaws.{stretches_from_begin, stretches_from_end}
 use Rattle.energy.specs.Energy.{at_end, state, listed, on_in, on_slots, start_at, starts_from, starts_of, starts, on, energy}
 use Rattle.energy.specs.StretchLaws.{Found}
 use Rattle.energy.specs.EnergyLaws.{on_in_le, start_at_le, on_slots_le, starts_of_le}

@@ -1,6 +1,6 @@
 // The stretch of a blower that begins at a place of the day, and its state.
 ghost use Rattle.std.specs.Prelude.{◌≡◌, ◌≤◌, ◌<◌};
-ghost use Rattle.method.proofs.FrontRunLaws.{stretch};
+ghost use Rattle.method.specs.FrontRunLaws.{stretch};
 ghost use Rattle.energy.specs.Energy.{state};
 ghost use Rattle.energy.specs.Usage.{stretch_at, Day};
 

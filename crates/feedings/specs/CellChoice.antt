@@ -3,7 +3,7 @@
 use Rattle.std.specs.Prelude.{◌≡◌, ◌≢◌, Bool, true, false, List, ℕ, suc, ◌-◌, ◌^◌, ◌≤◌, ◌<◌, length}
 use Rattle.theory.specs.SumsOver.{one}
 use Rattle.theory.specs.Placing.{count, Placing}
-use Rattle.theory.proofs.Move.{upd}
+use Rattle.theory.specs.Move.{upd}
 use Rattle.common.specs.Bits.{bit}
 use Rattle.std.specs.Int.Bits.{bit_and}
 use Rattle.grid.specs.Grid.{slots, at, load, Seen, Edge, Closed, Grid}

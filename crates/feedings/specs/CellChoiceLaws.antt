@@ -6,7 +6,8 @@ use Rattle.common.specs.Tests.{false_of_not_true}
 use Rattle.theory.specs.Sums.{sum_cong, sum_zero}
 use Rattle.theory.specs.SumsOver.{one}
 use Rattle.theory.specs.Placing.{size, count, Placing}
-use Rattle.theory.proofs.Move.{upd, upd_same, upd_row, upd_col, size_upd, size_upd_other, count_upd, count_upd_other}
+use Rattle.theory.specs.Move.{upd}
+use Rattle.theory.proofs.Move.{upd_same, upd_row, upd_col, size_upd, size_upd_other, count_upd, count_upd_other}
 use Rattle.common.specs.Bits.{bit, bit_none}
 use Rattle.grid.specs.Grid.{slots, at, load, volume, ind}
 use Rattle.grid.specs.MoveLaws.{ind_same, ind_other}

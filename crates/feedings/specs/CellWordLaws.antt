@@ -4,7 +4,8 @@ use Rattle.std.proofs.Common.{sym, ap, ◌∙◌, subst, arith, length-set, get_
 use Rattle.std.proofs.Math.Decide.{ℕ_discrete}
 use Rattle.std.specs.Int.Count.{ones}
 use Rattle.theory.specs.SumsOver.{one}
-use Rattle.theory.proofs.Move.{upd, upd_same, upd_row, upd_col}
+use Rattle.theory.specs.Move.{upd}
+use Rattle.theory.proofs.Move.{upd_same, upd_row, upd_col}
 use Rattle.common.specs.Bits.{bit, ones_sub}
 use Rattle.grid.specs.Grid.{slots, at, load, volume, Grid, ind}
 use Rattle.loads.specs.First.{rations, Fed}

@@ -3,7 +3,7 @@
 use Rattle.std.specs.Prelude.{◌≡◌, refl, Bool, true, false, not, List, ℕ, suc, ◌<◌, length}
 use Rattle.std.proofs.Common.{sym, ◌∙◌, arith}
 use Rattle.common.specs.Tests.{and_true}
-use Rattle.theory.proofs.Move.{upd}
+use Rattle.theory.specs.Move.{upd}
 use Rattle.schedules.specs.Schedules.{Demand, Windows, volume_of, feasible}
 use Rattle.schedules.specs.AsFunctions.{free, fed, bound}
 use Rattle.placing.specs.Represents.{Represents}
@@ -12,8 +12,10 @@ use Rattle.feedings.specs.CellChoice.{Exactly, Decided}
 use Rattle.feedings.specs.ExactlyLaws.{exactly_windows, exactly_some, represents_exactly}
 use Rattle.method.specs.Feedings.{chosen, before}
 use Rattle.method.proofs.FeedingCells.{before_self}
-use Rattle.method.proofs.FeedingUndecided.{less, less_same, less_other, by_cases, undecided_out}
-use Rattle.method.proofs.FeedingFunctions.{windows_from, windows_from_first, windows_from_next, windows_from_next_row, LeftFrom, left_from_first, left_from_exact, left_from_next, left_from_next_row, answers_fed}
+use Rattle.method.specs.FeedingUndecided.{less}
+use Rattle.method.proofs.FeedingUndecided.{less_same, less_other, by_cases, undecided_out}
+use Rattle.method.specs.FeedingFunctions.{windows_from, LeftFrom}
+use Rattle.method.proofs.FeedingFunctions.{windows_from_first, windows_from_next, windows_from_next_row, left_from_first, left_from_exact, left_from_next, left_from_next_row, answers_fed}
 
 -- before cell (t, j): F, R and H hold a placing of what is left to the volumes and the loads when the cells before it are decided as in the chosen placing
 pub record Choosing (slots : ℕ) (ds : List Demand) (counts : List ℕ) (t j : ℕ) (F R H : List ℕ) : Type 0 where

@@ -6,10 +6,11 @@ use Rattle.std.proofs.Math.Path.{ap}
 use Rattle.theory.specs.Sums.{sum, sum_cong, sum_swap, sum_change, sum_term, sum_tight}
 use Rattle.theory.specs.SumsOver.{one}
 use Rattle.theory.specs.Placing.{size, count, Placing}
-use Rattle.theory.proofs.Move.{upd}
+use Rattle.theory.specs.Move.{upd}
 use Rattle.method.specs.Feedings.{Cells}
 use Rattle.method.specs.FeedingResidual.{undecided, Amounts}
-use Rattle.method.proofs.FeedingUndecided.{Exact, less, less_same, less_other, size_cong, count_cong, size_undecided, count_undecided, undecided_out}
+use Rattle.method.specs.FeedingUndecided.{less}
+use Rattle.method.proofs.FeedingUndecided.{Exact, less_same, less_other, size_cong, count_cong, size_undecided, count_undecided, undecided_out}
 
 -- Volumes and loads outside of decided cells -----------------------------------
 

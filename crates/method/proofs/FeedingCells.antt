@@ -6,7 +6,7 @@ use mathlib.Core.List.{List, [], ◌∷◌, ◌++◌, map, append_assoc, Memᴰ}
 use Rattle.std.proofs.lemmas.Bool.{eqb-false}
 use Rattle.common.specs.Lists.{range, flat_map}
 use Rattle.common.specs.Tests.{bool_ext, or_true, and_true, or_right}
-use Rattle.theory.proofs.Move.{upd}
+use Rattle.theory.specs.Move.{upd}
 use Rattle.schedules.proofs.ListLaws.{in_flat_map}
 use Rattle.method.specs.Feedings.{cells, before}
 

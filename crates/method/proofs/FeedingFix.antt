@@ -5,12 +5,12 @@ use Rattle.std.proofs.Common.{sym, ◌∙◌, ap, get_or-set_same, get_or-set_ot
 use Rattle.std.proofs.Math.ListN.{length-set}
 use Rattle.std.proofs.lemmas.Bool.{eqb-false}
 use Rattle.theory.specs.SumsOver.{one}
-use Rattle.theory.proofs.Move.{upd}
+use Rattle.theory.specs.Move.{upd}
 use Rattle.schedules.specs.Slots.{has}
 use Rattle.schedules.specs.Schedules.{no_demand, window_of, volume_of}
 use Rattle.schedules.specs.AsFunctions.{free, bound}
 use Rattle.method.specs.FeedingResidual.{Residual, OfDay, fix_demand, fix}
-use Rattle.method.proofs.FeedingUndecided.{less}
+use Rattle.method.specs.FeedingUndecided.{less}
 
 get_d_set : {A : Type 0} (l : List A) (j : ℕ) (a z : A) (i : ℕ) → j < length l → get_or (set l j a) i z ≡ cond (eqb i j) a (get_or l i z)
 get_d_set l j a z i k = go (eqb i j) refl

@@ -1,31 +1,25 @@
 -- The loop over the cells as functions, for a search that holds one placing of what is left: what is left before cell (t, j) has the windows
 -- without the cells before it, volumes v and counts c; a step changes each of them at one place. A placing within the counts answers yes, and
 -- only if there is none the answer is no. Assumes nothing.
-use Rattle.std.specs.Prelude.{◌≡◌, refl, Bool, true, false, ◌&&◌, not, List, ℕ, suc, ◌≤◌, ◌<◌, length}
+use Rattle.std.specs.Prelude.{◌≡◌, refl, Bool, true, false, ◌&&◌, not, List, ℕ, suc, ◌<◌, length}
 use Rattle.std.proofs.Common.{sym, ◌∙◌, ap, arith}
 use Rattle.std.proofs.lemmas.Bool.{false≢true}
 use Rattle.common.specs.Tests.{false_of_not_true}
 use Rattle.theory.specs.Sums.{sum, sum_cong}
-use Rattle.theory.specs.Placing.{count, Placing}
-use Rattle.theory.proofs.Move.{upd, upd_same}
+use Rattle.theory.specs.Move.{upd}
+use Rattle.theory.proofs.Move.{upd_same}
 use Rattle.schedules.specs.Schedules.{Demand, Windows, volume_of, feasible}
 use Rattle.schedules.specs.AsFunctions.{free, fed, bound, listed}
 use Rattle.schedules.proofs.AsFunctions.{sound_bounded, bounded_sound}
 use Rattle.method.specs.Feedings.{Cells, chosen, before}
 use Rattle.method.proofs.FeedingCells.{before_first, before_self, before_next, before_next_slot}
 use Rattle.method.proofs.FeedingLaws.{chosen_sound, chosen_fed_iff}
-use Rattle.method.specs.FeedingResidual.{undecided, joined, Amounts}
-use Rattle.method.proofs.FeedingUndecided.{Exact, exact_cong, exact_undecided, exact_joined, exact_fed, exact_fixed, less, undecided_out, undecided_upd}
+use Rattle.method.specs.FeedingResidual.{joined}
+use Rattle.method.specs.FeedingUndecided.{less}
+use Rattle.method.proofs.FeedingUndecided.{Exact, exact_cong, exact_undecided, exact_joined, exact_fed, exact_fixed, undecided_out, undecided_upd}
 use Rattle.method.proofs.FeedingAmounts.{within_exact, sum_less, sum_loads, amounts_none, amounts_cong, amounts_fix, amounts_fed}
 use Rattle.method.proofs.FeedingResidualLaws.{fed_listed}
-
--- the windows without the cells before (t, j)
-abbrev pub windows_from : List Demand → (t j : ℕ) → Cells
-windows_from ds t j = undecided (before t j) (free ds)
-
--- what the chosen placing feeds in the cells from (t, j) on
-abbrev pub chosen_from : (slots : ℕ) → List Demand → (counts : List ℕ) → (t j : ℕ) → Cells
-chosen_from slots ds counts t j = undecided (before t j) (fed (chosen slots ds counts))
+use Rattle.method.specs.FeedingFunctions.{windows_from, chosen_from, LeftFrom, Answers}
 
 -- the windows, cell after cell
 pub windows_from_first : (ds : List Demand) (i u : ℕ) → windows_from ds 0 0 i u ≡ free ds i u
@@ -36,15 +30,6 @@ windows_from_next ds t j i u = ap (λ x. free ds i u && not x) (before_next t j 
 
 pub windows_from_next_row : (ds : List Demand) (t i u : ℕ) → i < length ds → windows_from ds (suc t) 0 i u ≡ windows_from ds t (length ds) i u
 windows_from_next_row ds t i u m = ap (λ x. free ds i u && not x) (before_next_slot (length ds) t i u m)
-
--- v are its volumes and c its loads: what the residual problem of the lists has (`amounts` of `LeftBefore`)
-abbrev pub LeftFrom : (slots : ℕ) → List Demand → (counts : List ℕ) → (t j : ℕ) → (v c : ℕ → ℕ) → Type 0
-LeftFrom slots ds counts t j = Amounts (length ds) slots (before t j) (fed (chosen slots ds counts))
-
--- T feeds each ration as often as is left to it when cell (t, j) is fed, in the cells after it, and no slot more than is left to it then
-pub record Answers (slots : ℕ) (ds : List Demand) (t j : ℕ) (v c : ℕ → ℕ) (T : Cells) : Type 0 where
-  pub placing : Placing (length ds) slots (upd (windows_from ds t j) j t false) (less v j true) T
-  pub within : (u : ℕ) → u < slots → count (length ds) T u ≤ less c t true u
 
 module _ {slots : ℕ} {ds : List Demand} (w : Windows slots ds) (counts : List ℕ) (l : length counts ≡ slots) (e : feasible slots ds counts counts ≡ true) where
   pub left_from_first : LeftFrom slots ds counts 0 0 (volume_of ds) (bound counts)

@@ -7,7 +7,8 @@ use Rattle.std.proofs.Math.Bool.{true, false, false≢true}
 use Rattle.std.proofs.Math.ListN.{length}
 use Rattle.common.specs.Tests.{and_true, false_of_not_true}
 use Rattle.theory.specs.Placing.{size, count}
-use Rattle.theory.proofs.Move.{upd, upd_same}
+use Rattle.theory.specs.Move.{upd}
+use Rattle.theory.proofs.Move.{upd_same}
 use Rattle.schedules.specs.Slots.{has}
 use Rattle.schedules.specs.Schedules.{Demand, Schedule, Sound, Windows, volume_of}
 use Rattle.schedules.specs.Tabulate.{tab, get_d_tab}
@@ -18,7 +19,8 @@ use Rattle.method.specs.Feedings.{Cells, SameIn}
 use Rattle.method.specs.FeedingResidual.{Residual, OfDay, Completes, completable, fix, may_feed, choice, undecided, joined, LeftOf}
 use Rattle.method.proofs.FeedingLaws.{sound_ext}
 use Rattle.method.proofs.FeedingFix.{length_fix, of_day_fix, free_fix, volume_fix, count_fix}
-use Rattle.method.proofs.FeedingUndecided.{Exact, exact_cong, exact_undecided, exact_joined, less, undecided_out, undecided_upd, exact_fed}
+use Rattle.method.specs.FeedingUndecided.{less}
+use Rattle.method.proofs.FeedingUndecided.{Exact, exact_cong, exact_undecided, exact_joined, undecided_out, undecided_upd, exact_fed}
 use Rattle.method.proofs.FeedingAmounts.{amounts_none, amounts_cong, amounts_fix, amounts_fed}
 
 -- Decided cells ---------------------------------------------------------------

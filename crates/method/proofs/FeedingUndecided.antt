@@ -10,9 +10,11 @@ use Rattle.theory.specs.SumsOver.{one}
 use Rattle.theory.specs.Placing.{size, inside, count}
 use Rattle.theory.proofs.Row.{size_split, inside_is, outside_is}
 use Rattle.theory.specs.Bounds.{Bounded}
-use Rattle.theory.proofs.Move.{upd, upd_same, upd_true, size_upd, size_upd_other, count_upd, count_upd_other}
+use Rattle.theory.specs.Move.{upd}
+use Rattle.theory.proofs.Move.{upd_same, upd_true, size_upd, size_upd_other, count_upd, count_upd_other}
 use Rattle.method.specs.Feedings.{Cells}
 use Rattle.method.specs.FeedingResidual.{undecided, joined}
+use Rattle.method.specs.FeedingUndecided.{Same, less}
 
 -- Rows ------------------------------------------------------------------------
 
@@ -54,10 +56,6 @@ unfolding count size
 count_outside n S P D t h = size_outside n (λ i. S i t) (λ i. P i t) (λ i. D i t) h
 
 -- Decided cells ---------------------------------------------------------------
-
--- the same choices in the cells of D
-abbrev pub Same : (n d : ℕ) → Cells → Cells → Cells → Type 0
-Same n d D S P = (i u : ℕ) → i < n → u < d → D i u ≡ true → S i u ≡ P i u
 
 module _ (n d : ℕ) (free : Cells) (v c : ℕ → ℕ) where
   -- a placing with the loads c
@@ -111,10 +109,6 @@ module _ {n d : ℕ} {free : Cells} {v c : ℕ → ℕ} (D : Cells) {S : Cells} 
           go false false h = refl
 
 -- One cell more ---------------------------------------------------------------
-
--- a number less where the choice b is to feed
-abbrev pub less : (ℕ → ℕ) → ℕ → Bool → ℕ → ℕ
-less x j b i = cond (eqb i j) (x j - one b) (x i)
 
 pub less_same : (x : ℕ → ℕ) (j : ℕ) (b : Bool) → less x j b j ≡ x j - one b
 less_same x j b = rw (eq-eqb j j refl)

@@ -1,18 +1,9 @@
 -- The stretches of a blower one after another: the first runs as long as its state, and the others are those of the slots after it. Assumes nothing.
-use Rattle.std.specs.Prelude.{◌≡◌, Bool, true, false, cond, List, [], ◌∷◌, map, ℕ, zero, suc, ◌+◌, ◌≤◌, ◌<◌, leb, length, get_or, take, drop}
+use Rattle.std.specs.Prelude.{◌≡◌, Bool, true, false, List, [], ◌∷◌, map, ℕ, zero, suc, ◌+◌, ◌≤◌, ◌<◌, leb, length, get_or, take, drop}
 use Rattle.std.proofs.Common.{sym, ap, ◌∙◌, arith}
-use Rattle.std.specs.Bool.{beq}
-use Rattle.common.specs.Lists.{part}
 use Rattle.common.specs.ListLaws.{part_cons, part_none, part_front}
 use Rattle.method.specs.Intervals.{Interval, join, runs, intervals}
-
-abbrev pub stretch : ℕ → ℕ → Bool → Interval
-stretch first last busy = record { first = first; last = last; busy = busy }
-
--- how many elements at the front of a list are b
-unfoldable pub front_run : Bool → List Bool → ℕ
-front_run b [] = 0
-front_run b (c ∷ cs) = cond (beq b c) (suc (front_run b cs)) 0
+use Rattle.method.specs.FrontRunLaws.{stretch, front_run, busy_from, stretches_from, EndsAt}
 
 -- The first stretch of a list, and the stretches of what comes after it.
 pub runs_front : (t : ℕ) (b : Bool) (bs : List Bool)
@@ -41,14 +32,6 @@ runs_front t b (c ∷ cs) = ap (join t b) (runs_front (suc t) c cs) ∙ joined b
 
 -- From a slot on ---------------------------------------------------------------
 
--- the states of blower k from place `from` on, which is slot from + 1: busy where the count is at least k
-abbrev pub busy_from : List ℕ → (slots k from : ℕ) → List Bool
-busy_from counts slots k from = map (leb k) (part from slots counts)
-
--- the stretches of blower k from place `from` on
-unfoldable pub stretches_from : List ℕ → (slots k from : ℕ) → List Interval
-stretches_from counts slots k from = runs (suc from) (busy_from counts slots k from)
-
 pub stretches_from_begin : (counts : List ℕ) (slots k : ℕ) → intervals (take slots counts) k ≡ stretches_from counts slots k 0
 unfolding intervals stretches_from
 stretches_from_begin counts slots k = ap (λ l. runs 1 (map (leb k) l)) (part_front counts slots)
@@ -76,12 +59,6 @@ drop_busy_from counts slots k from (suc n) h l =
     ap (drop (suc n)) (busy_from_cons counts slots k from (omega arith) l)
     ∙ drop_busy_from counts slots k (from + 1) n (omega arith) l
     ∙ ap (busy_from counts slots k) (omega arith)
-
--- The stretch that begins after place `from` ends after place r: where its state stops, or with the day.
-pub record EndsAt (counts : List ℕ) (slots k from r : ℕ) : Type 0 where
-  pub after : from < r
-  pub within : r ≤ slots
-  pub next : stretches_from counts slots k from ≡ stretch (from + 1) r (leb k (get_or counts from 0)) ∷ stretches_from counts slots k r
 
 pub ends_at_front_run : (counts : List ℕ) (slots k from r : ℕ) → from < r → r ≤ slots → slots ≤ length counts
     → front_run (leb k (get_or counts from 0)) (busy_from counts slots k (from + 1)) + (from + 1) ≡ r → EndsAt counts slots k from r

@@ -11,3 +11,6 @@ pub mod Endings
 pub mod Slotwise
 pub mod SlotwiseEndings
 pub mod FeedingResidual
+pub mod FrontRunLaws
+pub mod FeedingFunctions
+pub mod FeedingUndecided

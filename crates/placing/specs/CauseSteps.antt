@@ -22,7 +22,8 @@ use Rattle.schedules.specs.Tabulate.{tab}
 use Rattle.schedules.specs.AsFunctions.{free, bound}
 use Rattle.schedules.proofs.CriticalLaws.{critical_as}
 use Rattle.schedules.proofs.CauseLaws.{tab_cong, excess_as, obstacle_crossed, crossed_lowest, shortfall_obstacle, excess_obstacle, feasible_ordered}
-use Rattle.schedules.proofs.Certificates.{places_feasible, load_of}
+use Rattle.schedules.specs.Certificates.{load_of}
+use Rattle.schedules.proofs.Certificates.{places_feasible}
 use Rattle.placing.specs.declared.Cause.{Cause}
 use Rattle.placing.specs.declared.Cause.TheVariants.{LowAboveHigh, Shortfall, Excess}
 use Rattle.placing.specs.declared.Answer.TheVariants.{Yes, No}

@@ -8,7 +8,7 @@ use Rattle.schedules.specs.Schedules.{no_demand, window_of, volume_of}
 use Rattle.placing.specs.Rations.{release_at, deadline_at, volume_at, demand_at, demands_from, Rations}
 use Rattle.schedules.specs.Tabulate.{length_tab, get_d_tab}
 use Rattle.schedules.proofs.WindowLaws.{length_window, count_window}
-use Rattle.schedules.proofs.DemandLaws.{DemandsInRange}
+use Rattle.schedules.specs.DemandLaws.{DemandsInRange}
 
 pub length_demands_from : (slots n : ℕ) (numbers : List ℕ) → length (demands_from slots n numbers) ≡ n
 unfolding demands_from

@@ -18,7 +18,8 @@ use Rattle.schedules.specs.Schedules.{no_demand}
 use Rattle.schedules.specs.Demands.{demand_of, demands_of}
 use Rattle.placing.specs.Rations.{demand_at, demands_from, Rations}
 use Rattle.schedules.specs.Tabulate.{tab_unique}
-use Rattle.schedules.proofs.DemandLaws.{no_job, length_demands_of, demands_of_at, jobs_in_range_at}
+use Rattle.schedules.specs.DemandLaws.{no_job}
+use Rattle.schedules.proofs.DemandLaws.{length_demands_of, demands_of_at, jobs_in_range_at}
 
 -- Accepted --------------------------------------------------------------------
 

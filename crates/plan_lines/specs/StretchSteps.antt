@@ -11,7 +11,8 @@ use Rattle.checks.specs.Limits.{max_blowers}
 use Rattle.line.specs.Line.{write_line}
 use Rattle.common.specs.Buffers.{put_at}
 use Rattle.method.specs.Intervals.{Interval, intervals, busy_in}
-use Rattle.method.proofs.FrontRunLaws.{stretch, stretches_from, stretches_from_some, stretches_from_begin, stretches_from_end}
+use Rattle.method.specs.FrontRunLaws.{stretch, stretches_from}
+use Rattle.method.proofs.FrontRunLaws.{stretches_from_some, stretches_from_begin, stretches_from_end}
 use Rattle.energy.specs.Energy.{state, listed}
 use Rattle.energy.specs.Usage.{Day}
 use Rattle.energy.specs.StretchLaws.{Found}

@@ -20,7 +20,7 @@ use Rattle.schedules.specs.Schedules.{Schedule, load}
 use Rattle.schedules.specs.Tabulate.{get_d_map_below}
 use Rattle.schedules.specs.AsFunctions.{Rows}
 use Rattle.schedules.proofs.ListLaws.{in_flat_map, in_keep}
-use Rattle.schedules.proofs.DemandLaws.{no_job}
+use Rattle.schedules.specs.DemandLaws.{no_job}
 use Rattle.plan_lines.specs.Lines.{Line, part_at, fed_in, feed_line, slot_lines, feed_lines, members_from}
 use Rattle.planning.specs.ReadListing.{slot_set, in_slot, of_tank, is_of, of_meal, placing_on}
 use Rattle.planning.proofs.ListLaws.{in_range, flat_map_range_cong, flat_map_range_one, keep_all, keep_none, keep_flat_map, map_flat_map, in_zip_with, at_zip_with}

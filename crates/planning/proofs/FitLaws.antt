@@ -27,7 +27,7 @@ use Rattle.plan_lines.specs.Putting.{length_write_lines}
 use Rattle.plan_lines.proofs.LengthLaws.{length_stretch_lines}
 use Rattle.planning.specs.Problem.{SoundPlacing, plan_with}
 use Rattle.planning.specs.ReadListing.{tanks}
-use Rattle.planning.proofs.ReadLaws.{FitsLine, FitLines}
+use Rattle.planning.specs.ReadLaws.{FitsLine, FitLines}
 use Rattle.planning.proofs.SlotSetLaws.{length_members_from}
 use Rattle.planning.proofs.StretchLineLaws.{in_stretch_lines}
 use Rattle.planning.proofs.FeedLineLaws.{part_at_le, length_feed_lines, in_feed_lines}

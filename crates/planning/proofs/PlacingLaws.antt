@@ -14,7 +14,8 @@ use Rattle.schedules.specs.Schedules.{Schedule, volume_of, load}
 use Rattle.schedules.specs.Demands.{demands_of, full_high}
 use Rattle.schedules.specs.AsFunctions.{Rows}
 use Rattle.schedules.proofs.AsFunctions.{length_load}
-use Rattle.schedules.proofs.DemandLaws.{no_job, length_demands_of, window_of_demands_of, windows_demands_of}
+use Rattle.schedules.specs.DemandLaws.{no_job}
+use Rattle.schedules.proofs.DemandLaws.{length_demands_of, window_of_demands_of, windows_demands_of}
 use Rattle.schedules.proofs.WindowLaws.{has_window}
 use Rattle.schedules.specs.Tabulate.{get_d_map_below, has_below}
 use Rattle.planning.specs.Problem.{SoundPlacing}

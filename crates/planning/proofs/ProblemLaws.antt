@@ -30,7 +30,8 @@ use Rattle.schedules.proofs.FeasibleLaws.{feasible_sound, sound_feasible, sound_
 use Rattle.schedules.proofs.CriticalLaws.{length_critical_set}
 use Rattle.schedules.proofs.Differences.{sub_le}
 use Rattle.schedules.specs.Tabulate.{tab, length_tab, get_d_tab, has_below}
-use Rattle.schedules.proofs.DemandLaws.{length_demands_of, windows_demands_of, DemandsInRange, demands_of_in_range}
+use Rattle.schedules.specs.DemandLaws.{DemandsInRange}
+use Rattle.schedules.proofs.DemandLaws.{length_demands_of, windows_demands_of, demands_of_in_range}
 use Rattle.schedules.proofs.RestLaws.{window_of_rest, volume_of_rest, length_rest_high, length_rest_demands, windows_rest, together_sound, together_same, together_none, rest_iff}
 use Rattle.method.specs.Method.{bounds_under, FeasibleDay, settle_all, loads}
 use Rattle.method.specs.Feedings.{chosen}
@@ -43,7 +44,7 @@ use Rattle.plan_lines.specs.Lines.{Line, held_lines}
 use Rattle.plan_lines.specs.PlacingForms.{words_of}
 use Rattle.plan_lines.proofs.PlacingFormLaws.{length_words_of}
 use Rattle.planning.specs.Problem.{Problem, SoundPlacing, left, room, MayPlace, ProblemInRange, can_be_planned, settled_counts, feedings_of, counts_of, shown_set, plan_listing, held_listing, listing_of, words_for}
-use Rattle.planning.proofs.ReadLaws.{FitLines}
+use Rattle.planning.specs.ReadLaws.{FitLines}
 use Rattle.planning.proofs.PlacingLaws.{length_counts}
 use Rattle.planning.proofs.FitLaws.{fit_held_lines, length_plan_text, length_held_text}
 

@@ -1,10 +1,10 @@
 -- The lines of a written listing are read back, where each number has at most as many digits as a field has columns.
 -- Assumes nothing.
-use Rattle.std.specs.Prelude.{◌≡◌, refl, false, ℕ, zero, suc, ◌^◌, ◌<◌, length}
+use Rattle.std.specs.Prelude.{◌≡◌, refl, false, ℕ, zero, suc, ◌<◌, length}
 use Rattle.std.proofs.Common.{ap, ap₂, ◌∙◌, arith, drop_at}
 use mathlib.Core.List.{List, [], ◌∷◌, ◌++◌, map, Memᴰ}
 use Rattle.common.specs.Lists.{range}
-use Rattle.line.specs.Layout.{width, line_bytes}
+use Rattle.line.specs.Layout.{line_bytes}
 use Rattle.checks.specs.Sheet.{line_at}
 use Rattle.line.specs.Line.{value_at, faulty_line, write_line}
 use Rattle.line.specs.LineLaws.{length_write_line, value_at_write_line, faulty_line_write_line}
@@ -14,16 +14,7 @@ use Rattle.plan_lines.specs.Lines.{Line}
 use Rattle.plan_lines.specs.Text.{write_lines}
 use Rattle.plan_lines.specs.Putting.{length_write_lines}
 use Rattle.planning.specs.ReadListing.{line_in, lines_in, lines_of}
-
--- a line whose numbers have at most as many digits as a field has columns
-pub record FitsLine (l : Line) : Type 0 where
-  pub a : l.a < 10 ^ width
-  pub b : l.b < 10 ^ width
-  pub c : l.c < 10 ^ width
-  pub d : l.d < 10 ^ width
-
-abbrev pub FitLines : List Line → Type 0
-FitLines ls = (l : Line) → Memᴰ l ls → FitsLine l
+use Rattle.planning.specs.ReadLaws.{FitsLine, FitLines}
 
 abbrev write_one : Line → List ℕ
 write_one l = write_line l.a l.b l.c l.d

@@ -19,7 +19,8 @@ use Rattle.plan_lines.specs.Lines.{Line, plan_lines}
 use Rattle.plan_lines.specs.Text.{write_lines, plan_word, held_word, plan_text, held_text}
 use Rattle.planning.specs.Problem.{Problem, alone, ProblemInRange, can_be_planned, feedings_of, counts_of, plan_for, listing_of}
 use Rattle.planning.specs.ReadListing.{lines_of}
-use Rattle.planning.proofs.ReadLaws.{FitLines, lines_of_written, faulty_line_written}
+use Rattle.planning.specs.ReadLaws.{FitLines}
+use Rattle.planning.proofs.ReadLaws.{lines_of_written, faulty_line_written}
 use Rattle.planning.proofs.FitLaws.{day_le, fit_plan_lines}
 use Rattle.planning.proofs.ProblemLaws.{held_lines_of, listing_plan, listing_held, feedings_sound, fit_held, length_listing}
 use Rattle.planning.proofs.AloneLaws.{alone_in_range}

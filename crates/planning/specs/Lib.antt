@@ -6,3 +6,4 @@ pub mod ReadListing
 -- Laws of the definitions
 -- What the functions within the crate require and ensure
 pub mod Clauses
+pub mod ReadLaws

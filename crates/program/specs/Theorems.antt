@@ -24,7 +24,7 @@ use Rattle.planning.specs.Problem.{Problem, alone, can_be_planned, listing_of}
 use Rattle.planning.specs.Planning.{plan_refusal, listed_answer, listing_after, writes}
 use Rattle.planning.proofs.WrittenLaws.{number_planned, number_held, writes_planned, writes_held, listing_written}
 use Rattle.planning.specs.ReadListing.{written}
-use Rattle.planning.proofs.ReadLaws.{FitsLine, FitLines}
+use Rattle.planning.specs.ReadLaws.{FitsLine, FitLines}
 use Rattle.planning.proofs.Theorems.{ReadsAs, reads_as}
 use Rattle.practice.specs.Practice.{practice_sheet, seed_input, seed_in, max_seed, faulty_seed}
 use Rattle.practice.proofs.SeedLaws.{seed_fine, seed_is, seed_there}

@@ -4,28 +4,20 @@ use Rattle.std.specs.Prelude.{◌≡◌, Bool, true, false, List, ℕ, ◌≤◌
 use Rattle.std.proofs.Common.{sym, ◌∙◌, arith}
 use Rattle.common.specs.Tests.{false_of_not_true}
 use Rattle.theory.specs.SumsOver.{sum_on}
-use Rattle.theory.specs.Placing.{Placing, Closed, opposite}
-use Rattle.theory.specs.Placing as F
+use Rattle.theory.specs.Placing.{Closed, opposite}
 use Rattle.theory.proofs.Volumes.{forced_le_capacity, low_le_possible}
 use Rattle.theory.proofs.Closed.{closed_tight, certificate}
 use Rattle.theory.proofs.Edges.{NoEdgeLeaves, no_edge_closed, Reach, reach_closed}
 use Rattle.theory.proofs.Complement.{certificate_rest}
 use Rattle.theory.proofs.Critical.{closed_critical}
-use Rattle.schedules.specs.Schedules.{Demand, Windows, Sound, feasible, volume_of}
+use Rattle.schedules.specs.Schedules.{Demand, Windows, Sound, feasible}
 use Rattle.schedules.specs.Shortfall.{forced, critical_set}
 use Rattle.schedules.specs.Tabulate.{tab}
 use Rattle.schedules.specs.AsFunctions.{free, bound, listed}
 use Rattle.schedules.proofs.AsFunctions.{forced_tab, sound_bounded, bounded_sound}
 use Rattle.schedules.proofs.FeasibleLaws.{feasible_sound, sound_feasible}
 use Rattle.schedules.proofs.CriticalLaws.{critical_as}
-
--- S gives each demand its volume of slots of its window
-abbrev pub Places : ℕ → List Demand → (ℕ → ℕ → Bool) → Type 0
-Places slots ds S = Placing (length ds) slots (free ds) (volume_of ds) S
-
--- the load of slot t
-abbrev pub load_of : List Demand → (ℕ → ℕ → Bool) → ℕ → ℕ
-load_of ds S t = F.count (length ds) S t
+use Rattle.schedules.specs.Certificates.{Places, load_of}
 
 module _ {slots : ℕ} {ds : List Demand} (w : Windows slots ds) {S : ℕ → ℕ → Bool} (s : Places slots ds S) where
   -- loads within the bounds: S is a sound placing, and the answer is yes

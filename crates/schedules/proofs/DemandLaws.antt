@@ -1,20 +1,17 @@
 -- The demands of a sheet: their windows are of the day, and where the sheet is accepted they are few and their volumes fit. Assumes nothing.
-use Rattle.std.specs.Prelude.{◌≡◌, true, List, [], ◌∷◌, ℕ, zero, suc, ◌≤◌, ◌<◌, length, get_or}
+use Rattle.std.specs.Prelude.{◌≡◌, true, List, [], ◌∷◌, ℕ, zero, suc, ◌<◌, length, get_or}
 use Rattle.std.proofs.Math.Path.{ap}
 use Rattle.std.proofs.Common.{◌∙◌, arith}
 use Rattle.std.proofs.lemmas.List.{length-map}
 use Rattle.common.specs.Lists.{count}
-use Rattle.checks.specs.Limits.{max_slots, max_rations}
 use Rattle.checks.specs.Sheet.{Job, Sheet}
 use Rattle.checks.specs.RangeLaws.{JobInRange, JobsInRange, ValuesInRange}
 use Rattle.schedules.specs.Slots.{window}
-use Rattle.schedules.specs.Schedules.{Demand, Windows, no_demand, window_of, volume_of}
+use Rattle.schedules.specs.Schedules.{Windows, no_demand, window_of, volume_of}
 use Rattle.schedules.specs.Demands.{demand_of, demands_of}
 use Rattle.schedules.specs.Tabulate.{get_d_map_below}
 use Rattle.schedules.proofs.WindowLaws.{length_window, count_window}
-
-abbrev pub no_job : Job
-no_job = record { tank = 0; release = 0; deadline = 0; volume = 0 }
+use Rattle.schedules.specs.DemandLaws.{no_job, DemandsInRange}
 
 pub length_demands_of : (s : Sheet) → length (demands_of s) ≡ length s.jobs
 unfolding demands_of
@@ -48,14 +45,6 @@ pub jobs_in_range_at : (least slots before until : ℕ) (js : List Job) → Jobs
 jobs_in_range_at least slots before until [] h j l = absurd (omega arith)
 jobs_in_range_at least slots before until (x ∷ js) h zero l = (before, until, h.0)
 jobs_in_range_at least slots before until (x ∷ js) h (suc j) l = jobs_in_range_at least slots x.tank x.deadline js h.1 j (omega arith)
-
--- What the checks 3 to 9 and 13 leave of the demands of a day.
-pub record DemandsInRange (slots : ℕ) (ds : List Demand) : Type 0 where
-  pub short : slots ≤ max_slots
-  pub few : length ds ≤ max_rations
-  pub windows : Windows slots ds
-  pub fits : (j : ℕ) → j < length ds → volume_of ds j ≤ count (window_of ds j)
-  pub small : (j : ℕ) → j < length ds → volume_of ds j ≤ max_slots
 
 pub demands_of_in_range : {least : ℕ} (s : Sheet) → ValuesInRange least s (length s.jobs) true → DemandsInRange s.slots (demands_of s)
 demands_of_in_range {least} s v =

@@ -12,3 +12,5 @@ pub mod Meanings
 pub mod AsFunctions
 -- Laws of the definitions
 pub mod Tabulate
+pub mod DemandLaws
+pub mod Certificates

@@ -4,7 +4,8 @@ use Rattle.std.proofs.Common.{sym, ◌∙◌, arith}
 use Rattle.std.proofs.Math.Path.{ap}
 use Rattle.std.specs.Bool.{beq}
 use Rattle.common.specs.ListLaws.{part_none}
-use Rattle.method.proofs.FrontRunLaws.{busy_from, busy_from_cons, front_run, EndsAt, ends_at_front_run}
+use Rattle.method.specs.FrontRunLaws.{busy_from, front_run, EndsAt}
+use Rattle.method.proofs.FrontRunLaws.{busy_from_cons, ends_at_front_run}
 
 -- the counts of a day's slots, and a place in the day
 pub record CanScan (counts : List ℕ) (slots from : ℕ) : Type 0 where

@@ -2,7 +2,7 @@
 ghost use Rattle.std.specs.Prelude.{◌≡◌, leb};
 ghost use Rattle.std.specs.Bool.{beq};
 ghost use Rattle.stretches.specs.FrontRunSteps.{CanScan};
-ghost use Rattle.method.proofs.FrontRunLaws.{EndsAt};
+ghost use Rattle.method.specs.FrontRunLaws.{EndsAt};
 
 // Whether a blower is busy in a slot with this count.
 pub fn is_busy(blower: u32, count: u8) -> bool

@@ -8,7 +8,8 @@ use borrow.Author.Tests.{ltb-true, ltb-false, lt-ltb}
 use Rattle.common.specs.Tests.{true_or_false}
 use Rattle.theory.specs.Sums.{sum, sum_change}
 use Rattle.theory.specs.Placing.{count, Placing}
-use Rattle.theory.proofs.Move.{upd, upd_col, move, Shift, shift_trans, move_shift, move_placing}
+use Rattle.theory.specs.Move.{upd, move, Shift}
+use Rattle.theory.proofs.Move.{upd_col, shift_trans, move_shift, move_placing}
 use Rattle.theory.specs.Optimum.{Between}
 use Rattle.theory.proofs.Edges.{Edge}
 use Rattle.theory.proofs.Layers.{layer, Step, in_layer, layer_in, layer_more, layer_mono}

@@ -7,12 +7,9 @@ use Rattle.std.proofs.Math.Decide.{ℕ_discrete}
 use Rattle.theory.specs.Sums.{sum_cong, sum_change}
 use Rattle.theory.specs.SumsOver.{one}
 use Rattle.theory.specs.Placing.{size, Within, count, Placing}
+use Rattle.theory.specs.Move.{upd, move, Shift}
 
 -- One cell --------------------------------------------------------------------
-
--- S with b for job j in slot t
-abbrev pub upd : (ℕ → ℕ → Bool) → ℕ → ℕ → Bool → ℕ → ℕ → Bool
-upd S j t b k u = cond (eqb k j && eqb u t) b (S k u)
 
 module _ (S : ℕ → ℕ → Bool) (j t : ℕ) (b : Bool) where
   pub upd_same : upd S j t b j t ≡ b
@@ -57,16 +54,6 @@ module _ (S : ℕ → ℕ → Bool) (j t : ℕ) (b : Bool) where
   count_upd_other n u h = sum_cong (λ k l. ap one (upd_col k u h))
 
 -- A move --------------------------------------------------------------------
-
--- job j goes from slot t to slot u
-abbrev pub move : (ℕ → ℕ → Bool) → ℕ → ℕ → ℕ → ℕ → ℕ → Bool
-move S j t u = upd (upd S j t false) j u true
-
--- of all loads, that of z falls by one and that of u rises by one
-pub record Shift (n : ℕ) (S T : ℕ → ℕ → Bool) (z u : ℕ) : Type 0 where
-  pub from : count n T z + 1 ≡ count n S z
-  pub to : count n T u ≡ count n S u + 1
-  pub others : (w : ℕ) → w ≢ z → w ≢ u → count n T w ≡ count n S w
 
 -- from a to u, and then from z to a
 pub shift_trans : {n : ℕ} {S T U : ℕ → ℕ → Bool} {z a u : ℕ} → Shift n S T a u → Shift n T U z a → z ≢ a → z ≢ u → u ≢ a → Shift n S U z u

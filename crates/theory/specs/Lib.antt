@@ -7,3 +7,4 @@ pub mod SumsOver
 pub mod Placing
 pub mod Optimum
 pub mod Bounds
+pub mod Move
