@@ -1,12 +1,13 @@
 #!/usr/bin/env python3
 """Spells this repository's own definitions, lemmas and fields as today's Rattle does: in snake case, with underscores.
 
-usage: tools/respell.py [FOLDER]     once, right after port.py, in the checkout FOLDER (default: the one around this file)
+usage: tools/respell.py [FOLDER]     once, right after port.py, in the checkout FOLDER (default: that of this file)
 
 A name of specs/ or proofs/ that begins with a small letter and has a dash or a capital in it gets underscores:
 `sumOn` is `sum_on`, `and-true` is `and_true`. Where a lemma would fall together with the definition that it is about,
-it ends in `_lem`. Types, modules, functions of src/, exported names, strings, inputs and outputs keep their names, and so
-does a name in a file that imports it from a library. Must-fail edits and the code spans of the pages turn with the files.
+it ends in `_lem`. Types, modules, functions of src/, exported names, strings, inputs and outputs keep their names, and
+so does a name in a file that imports it from a library. Must-fail edits and the code spans of the pages turn with the
+files.
 
 It also renames specs/Contracts.antt, whose name Rattle now takes, to specs/Clauses.antt, and writes `#![tactic(auto)]`
 into each root file. A label that port.py named like a definition gets another name.
@@ -99,7 +100,8 @@ def beside_libraries(root, own):
     for path in list(walk(root, "crates", ".antt")) + list(walk(root, "crates", ".rt")):
         text = read(path)
         library = from_libraries(text, own)
-        met |= {name for name in set(NAME.findall(text)) if needs(name) and name not in library and snake(name) in library}
+        own_names = {name for name in set(NAME.findall(text)) if needs(name) and name not in library}
+        met |= {name for name in own_names if snake(name) in library}
     return met
 
 
@@ -217,7 +219,8 @@ def main():
                 if "#![tactic" not in before:
                     lines = before.splitlines(keepends=True)
                     at = next((i for i, l in enumerate(lines) if not l.startswith("//")), len(lines))
-                    lines.insert(at, "#![tactic(auto)]\n" if at == len(lines) or lines[at].strip() == "" else "#![tactic(auto)]\n\n")
+                    ends = at == len(lines) or lines[at].strip() == ""
+                    lines.insert(at, "#![tactic(auto)]\n" + ("" if ends else "\n"))
                     write(path, "".join(lines), before)
     for old, new in sorted(table.items()):
         print(f"{old}\t{new}")
