@@ -1,9 +1,9 @@
 -- Densities and their sums: rounded up they hold the volume, they are at most one feeding in each slot, and so the
 -- sums are small; and how they are added up. Assumes nothing.
-use Rattle.std.specs.Prelude.{◌≡◌, List, ℕ, suc, ◌+◌, ◌-◌, ◌*◌, ◌≤◌, ◌<◌, max, get_or, replicate}
-use Rattle.std.proofs.Common.{ap, subst, div-lt_iff_lt-mul}
+use Rattle.std.specs.Prelude.{◌≡◌, List, [], ◌∷◌, ℕ, zero, suc, ◌+◌, ◌-◌, ◌*◌, ◌≤◌, ◌<◌, max, get_or, replicate}
+use Rattle.std.specs.List.{fold}
+use Rattle.std.proofs.Common.{subst, div-lt_iff_lt-mul}
 use Rattle.std.proofs.Math.Nat.{lt-div-mul-add}
-use Rattle.std.proofs.Math.Decide.{ℕ_discrete}
 use native.Mathlib.Omega.{arith}
 use Rattle.std.proofs.lemmas.List.{length-replicate}
 use Rattle.common.specs.FillLaws.{get_d_zeros}
@@ -80,21 +80,25 @@ sums_end {numbers = numbers} {sums} e = subst (λ k. DensitySums k numbers sums)
 
 -- The greatest sum ----------------------------------------------------------------------
 
--- of the slots before t
-abbrev pub GreatestTo : (sums : List ℕ) (t most : ℕ) → Type 0
-GreatestTo sums t most = (t ≤ max_slots) × ((u : ℕ) → u < t → get_or sums u 0 ≤ most) × (most ≤ scale * max_rations)
+-- a fold from the greater of two numbers is at least the second
+fold_from : (xs : List ℕ) (a b : ℕ) → b ≤ a → b ≤ fold max a xs
+fold_from [] a b l = l
+fold_from (x ∷ xs) a b l = fold_from xs (max a x) b (omega arith)
 
-module _ {n : ℕ} {numbers : List ℕ} (h : Rations max_slots n numbers) {sums : List ℕ} (s : DensitySums n numbers sums) where
-  pub greatest_next : {t most : ℕ} → GreatestTo sums t most → t < max_slots → {r : ℕ} → r ≡ max most (get_or sums t 0) → GreatestTo sums (t + 1) r
-  greatest_next {t} {most} g l {r = r} e = (
-    omega arith,
-    λ u k. at u k (ℕ_discrete u t),
-    omega (arith, g.2, s.each t, sums_small h n (omega arith) t, h.few),
-  )
-    where
-      at : (u : ℕ) → u < t + 1 → Dec (u ≡ t) → get_or sums u 0 ≤ r
-      at u k (yes p) = omega (arith, ap (λ x. get_or sums x 0) p)
-      at u k (no p) = omega (arith, g.1 u (omega arith))
+fold_each : (xs : List ℕ) (a u : ℕ) → get_or xs u 0 ≤ fold max a xs
+fold_each [] a u = omega arith
+fold_each (x ∷ xs) a zero = fold_from xs (max a x) x (omega arith)
+fold_each (x ∷ xs) a (suc u) = fold_each xs (max a x) u
 
-  pub greatest_end : {t most : ℕ} → GreatestTo sums t most → max_slots ≤ t → DensityMost n numbers most
-  greatest_end g l = record { each = λ u k. omega (arith, s.each u, g.1 u (omega arith)); small = g.2 }
+fold_within : (xs : List ℕ) (a b : ℕ) → a ≤ b → ((u : ℕ) → get_or xs u 0 ≤ b) → fold max a xs ≤ b
+fold_within [] a b l h = l
+fold_within (x ∷ xs) a b l h = fold_within xs (max a x) b (omega (arith, h 0)) (λ u. h (suc u))
+
+pub greatest_is : {n : ℕ} {numbers sums : List ℕ} → Rations max_slots n numbers → DensitySums n numbers sums → {most : ℕ} → most ≡ fold max 0 sums
+    → DensityMost n numbers most
+greatest_is {n} {sums = sums} h s e =
+    record {
+      each = λ u l. omega (arith, s.each u, fold_each sums 0 u);
+      small =
+          omega (arith, fold_within sums 0 (scale * max_rations) (omega arith) (λ u. omega (arith, s.each u, sums_small h n (omega arith) u, h.few)));
+    }

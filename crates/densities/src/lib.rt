@@ -5,6 +5,7 @@
 #![tactic(auto)]
 
 ghost use Rattle.std.specs.Prelude.{◌≡◌, ◌≤◌, max};
+ghost use Rattle.std.specs.List.{fold};
 ghost use Rattle.checks.specs.Limits.{max_slots};
 ghost use Rattle.placing.specs.Rations.{Rations};
 ghost use Rattle.placing.specs.Words.{Added};
@@ -32,10 +33,8 @@ fn add_density(sums: &mut [u32; SLOTS], release: usize, deadline: usize, parts: 
     requires { CanAdd sums.old release deadline parts }
     ensures { Added parts release deadline sums.old sums.new }
 {
-    let mut t = release - 1;
-    while t < deadline {
-        sums[t] = sums[t] + parts;
-        t += 1;
+    for t in release - 1..deadline {
+        sums[t] += parts;
     }
 }
 
@@ -45,23 +44,21 @@ fn density_sums(n: usize, numbers: &[u32; 256]) -> [u32; SLOTS]
     ensures { DensitySums n numbers.now result }
 {
     let mut sums = [0u32; SLOTS];
-    let mut j = 0;
-    while j < n {
+    for j in 0..n {
         let at = FIELDS * j;
         let release = numbers[at + 1];
         let deadline = numbers[at + 2];
         let parts = density_of(numbers[at + 3], deadline + 1 - release);
         add_density(&mut sums, release as usize, deadline as usize, parts);
-        j += 1;
     }
     sums
 }
 
-// The greater of two numbers.
-fn greater(a: u32, b: u32) -> u32
-    ensures { result ≡ max a b }
+// The greatest of some numbers, 0 of none.
+fn greatest(numbers: &[u32]) -> u32
+    ensures { result ≡ fold max 0 numbers.now }
 {
-    if a < b { b } else { a }
+    numbers.iter().copied().fold(0, u32::max)
 }
 
 // The greatest of the sums. What is promised is that no slot has more; that one has as much, nothing above rests on.
@@ -69,12 +66,5 @@ pub fn greatest_density(n: usize, numbers: &[u32; 256]) -> u32
     requires { Rations max_slots n numbers.now }
     ensures { DensityMost n numbers.now result }
 {
-    let sums = density_sums(n, numbers);
-    let mut most = 0;
-    let mut t = 0;
-    while t < SLOTS {
-        most = greater(most, sums[t]);
-        t += 1;
-    }
-    most
+    greatest(&density_sums(n, numbers))
 }

@@ -13,11 +13,7 @@ ghost use Rattle.hall_uses.specs.Uses.{hall_high, CanAdd};
 fn hall_high(limit: u8, used: u8, blowers: u8) -> u8
     ensures { result ≡ min blowers (limit - used) }
 {
-    if limit < used {
-        return 0;
-    }
-    let left = limit - used;
-    if left < blowers { left } else { blowers }
+    blowers.min(limit.saturating_sub(used))
 }
 
 // The highs of a hall in its slots, 0 past its last one.
@@ -26,10 +22,8 @@ pub fn hall_highs(limit: u8, used: &[u8; 96], slots: usize, blowers: u8) -> [u8;
     ensures { result ≡ padded max_slots (hall_high limit used.now slots blowers) }
 {
     let mut highs = [0u8; 96];
-    let mut t = 0;
-    while t < slots {
+    for t in 0..slots {
         highs[t] = hall_high(limit, used[t], blowers);
-        t += 1;
     }
     highs
 }
@@ -40,10 +34,8 @@ pub fn add_used(used: &[u8; 96], counts: &[u8; 96]) -> [u8; 96]
     ensures { result ≡ zip_with ◌+◌ used.now counts.now }
 {
     let mut sums = [0u8; 96];
-    let mut t = 0;
-    while t < 96 {
+    for t in 0..96 {
         sums[t] = used[t] + counts[t];
-        t += 1;
     }
     sums
 }

@@ -1,10 +1,11 @@
 -- The steps of the loops over slot marks: whether each is 0 or 1, and the counts from slot 1 on. Assumes nothing.
-use Rattle.std.specs.Prelude.{◌≡◌, true, List, map, ℕ, suc, ◌+◌, ◌≤◌, ◌<◌, eqb, length, get_or, drop, replicate}
+use Rattle.std.specs.Prelude.{◌≡◌, refl, ◌&&◌, List, [], ◌∷◌, map, leb, ℕ, suc, ◌+◌, ◌≤◌, ◌<◌, eqb, length, get_or, replicate}
+use Rattle.std.specs.List.{list_all}
 use Rattle.std.proofs.Math.Path.{sym}
 use Rattle.std.proofs.Common.{ap, ◌∙◌, arith}
 use Rattle.std.proofs.Math.Bool.{false}
-use Rattle.std.proofs.lemmas.List.{length-map, length-replicate}
-use borrow.Author.Tests.{le-leb, lt-leb, eq-eqb, ne_eqb}
+use Rattle.std.proofs.lemmas.List.{length-replicate}
+use borrow.Author.Tests.{eq-eqb, ne_eqb}
 use Rattle.common.specs.Lists.{every}
 use Rattle.checks.specs.Limits.{max_slots}
 use Rattle.theory.specs.Sums.{sum_none, sum_next}
@@ -14,26 +15,14 @@ use Rattle.schedules.specs.Tabulate.{tab, length_tab, get_d_tab, get_d_map_below
 use Rattle.common.specs.FillLaws.{get_d_zeros, FilledTo, filled_end}
 use Rattle.marks.specs.Marks.{is_mark, marked}
 use Rattle.marks.specs.Counts.{marked_to, counts_before}
-use Rattle.marks.proofs.EveryLaws.{every_miss, every_hit, every_end}
 use Rattle.marks.proofs.CountLaws.{is_marked, marked_to_sum}
 
 -- Each mark is 0 or 1 -----------------------------------------------------------
 
-module _ (marks : List ℕ) (t : ℕ) where
-  pub marks_hit : t < length marks → 1 < get_or marks t 0 → false ≡ every (drop t (map is_mark marks))
-  unfolding is_mark
-  marks_hit l h =
-      every_hit (map is_mark marks) t (rw (length-map marks is_mark) l)
-      (get_d_map_below is_mark marks t false 0 l ∙ lt-leb (get_or marks t 0) 1 h)
-
-  pub marks_miss : t < length marks → get_or marks t 0 ≤ 1 → every (drop t (map is_mark marks)) ≡ every (drop (t + 1) (map is_mark marks))
-  unfolding is_mark
-  marks_miss l h =
-      every_miss (map is_mark marks) t (rw (length-map marks is_mark) l)
-      (get_d_map_below is_mark marks t false 0 l ∙ le-leb (get_or marks t 0) 1 h)
-
-  pub marks_end : t ≡ length marks → true ≡ every (drop t (map is_mark marks))
-  marks_end e = every_end (map is_mark marks) t (e ∙ sym (length-map marks is_mark))
+pub all_marks : (marks : List ℕ) → list_all (λ x. leb x 1) marks ≡ every (map is_mark marks)
+unfolding is_mark
+all_marks [] = refl
+all_marks (x ∷ xs) = ap (λ b. leb x 1 && b) (all_marks xs)
 
 -- The counts --------------------------------------------------------------------
 

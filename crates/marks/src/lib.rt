@@ -12,41 +12,29 @@ ghost use Rattle.marks.specs.Parts.{CanCount};
 fn are_marks(marks: &[u8]) -> bool
     ensures { result ≡ every (map is_mark marks.now) }
 {
-    let mut t = 0;
-    while t < marks.len() {
-        if 1 < marks[t] {
-            return false;
-        }
-        t += 1;
-    }
-    true
+    marks.iter().all(|mark| *mark <= 1)
 }
 
 // 11: the list is not one mark for each slot.
 pub fn is_faulty(slots: usize, marks: &[u8]) -> bool
     ensures { result ≡ marks_fault slots marks.now }
 {
-    if marks.len() != slots {
-        return true;
-    }
-    !are_marks(marks)
+    marks.len() != slots || !are_marks(marks)
 }
 
-// The marks counted from slot 1 on: place t has how many of the slots 1 to t are marked, and 0 past the day's last slot. One pass over the marks
-// serves every window of the set.
+// The marks counted from slot 1 on: place t has how many of the slots 1 to t are marked, and 0 past the day's last slot.
+// One pass over the marks serves every window of the set.
 pub fn counts_before(marks: &[u8]) -> [u32; 97]
     requires { length marks.now ≤ max_slots }
     ensures { result ≡ counts_before marks.now }
 {
     let mut before = [0u32; 97];
     let mut n = 0;
-    let mut t = 0;
-    while t < marks.len() {
-        if marks[t] == 1 {
+    for (t, mark) in marks.iter().enumerate() {
+        if *mark == 1 {
             n += 1;
         }
-        t += 1;
-        before[t] = n;
+        before[t + 1] = n;
     }
     before
 }

@@ -2,28 +2,13 @@
 use Prim.Native.Nat.{◌-◌, min}
 use lib.ListN.{get_or}
 use Rattle.checks.specs.Limits.{max_slots}
-use Rattle.common.specs.FillLaws.{filled_begin, filled_next}
+use Rattle.common.specs.FillLaws.{filled_begin}
 use Rattle.hall_uses.specs.UseLaws.{highs_end}
 use native.Mathlib.Omega.{arith}
 use Rattle.hall_uses.proofs.hall_highs.Goals as goal
 
 pub loop-t-init : goal.loop-t-init
 loop-t-init c = (omega arith, c.requires.0, filled_begin max_slots (λ k. min c.args.blowers (c.args.limit - get_or c.args.used.now k 0)))
-
-pub bounds-used-t : goal.bounds-used-t
-bounds-used-t c = omega (arith, c.requires.1)
-
-pub bounds-highs-t : goal.bounds-highs-t
-bounds-highs-t c = omega (arith, c.loop-t.invariant.2.long)
-
-pub overflow_add-t : goal.overflow_add-t
-overflow_add-t c = omega arith
-
-pub loop-t-smaller : goal.loop-t-smaller
-loop-t-smaller c = omega arith
-
-pub loop-t-preserved : goal.loop-t-preserved
-loop-t-preserved c = (omega arith, omega arith, filled_next max_slots (λ k. min c.args.blowers (c.args.limit - get_or c.args.used.now k 0)) _ _ c.loop-t.invariant.2 (omega arith) _ c.hall_high.ensures)
 
 pub returns : goal.returns
 returns c = highs_end c.args.limit c.args.used.now c.args.slots c.args.blowers c.loop-t.t (omega arith) (omega arith) _ c.loop-t.invariant.2

@@ -7,6 +7,3 @@ use Rattle.hall_uses.proofs.hall_highs.Given as goal
 
 abbrev pub invariant-loop-t : goal.invariant-loop-t
 invariant-loop-t l = (l.t ≤ l.slots) × (l.slots ≤ max_slots) × FilledTo max_slots (λ k. min l.blowers (l.limit - get_or l.used k 0)) l.t l.highs
-
-abbrev pub decreases-loop-t : goal.decreases-loop-t
-decreases-loop-t l = l.slots - l.t

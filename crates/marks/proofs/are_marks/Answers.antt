@@ -1,27 +1,9 @@
--- `marks::are_marks` meets its contract: what the marks from one on say of all, they say of all marks. Assumes nothing.
-use mathlib.Core.Path.{refl, sym, ◌∙◌}
-use Prim.Native.Nat.{◌-◌}
-use Rattle.marks.proofs.MarkSteps.{marks_hit, marks_miss, marks_end}
-use native.Mathlib.Omega.{arith}
+-- `marks::are_marks` meets its contract. Assumes nothing.
+use Rattle.std.proofs.Common.{◌∙◌, rules, tests}
+use Rattle.std.proofs.lemmas.Iterator.{YieldsList-from_slice}
+use Rattle.std.proofs.lemmas.Iterator.Search.{all_from_yields_List}
+use Rattle.marks.proofs.MarkSteps.{all_marks}
 use Rattle.marks.proofs.are_marks.Goals as goal
 
-pub loop-t-init : goal.loop-t-init
-loop-t-init c = (omega arith, refl)
-
-pub bounds-marks-t : goal.bounds-marks-t
-bounds-marks-t c = omega arith
-
-pub returns-then-marks-t-gt1 : goal.returns-then-marks-t-gt1
-returns-then-marks-t-gt1 c = marks_hit c.args.marks.now c.loop-t.t (omega arith) (omega arith) ∙ sym c.loop-t.invariant.1
-
-pub overflow_add-t : goal.overflow_add-t
-overflow_add-t c = omega arith
-
-pub loop-t-smaller : goal.loop-t-smaller
-loop-t-smaller c = omega arith
-
-pub loop-t-preserved : goal.loop-t-preserved
-loop-t-preserved c = (omega arith, c.loop-t.invariant.1 ∙ marks_miss c.args.marks.now c.loop-t.t (omega arith) (omega arith))
-
 pub returns : goal.returns
-returns c = marks_end c.args.marks.now c.loop-t.t (omega arith) ∙ sym c.loop-t.invariant.1
+returns c = all_from_yields_List _ _ _ _ c.all.ensures.ran (YieldsList-from_slice c.args.marks.now cc) (λ x b q k. search (rules, tests)) ∙ all_marks c.args.marks.now

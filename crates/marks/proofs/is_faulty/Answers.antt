@@ -9,6 +9,6 @@ pub returns-then-marks-slots : goal.returns-then-marks-slots
 unfolding marks_fault
 returns-then-marks-slots c = simp (ne_eqb _ _ c.if-marks-slots.true)
 
-pub returns : goal.returns
+pub returns-else-marks-slots : goal.returns-else-marks-slots
 unfolding marks_fault
-returns c = simp (eq-eqb _ _ c.if-marks-slots.false) (ap not c.are_marks.ensures)
+returns-else-marks-slots c = simp (eq-eqb _ _ c.if-marks-slots.false) (ap not c.are_marks.ensures)
