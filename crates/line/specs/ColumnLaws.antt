@@ -1,11 +1,9 @@
 -- What one more column makes of a field: the laws of `extend` and of blanks, by which FieldLaws goes from column to column. Assumes nothing.
-use Rattle.std.specs.Prelude.{◌≡◌, refl, Bool, true, false, ◌&&◌, cond, List, [], ◌∷◌, ◌++◌, ℕ, zero, suc, ◌+◌, ◌-◌, ◌*◌, ◌≤◌, ◌<◌, leb, eqb, length, replicate}
+use Rattle.std.specs.Prelude.{◌≡◌, refl, Bool, true, false, ◌&&◌, cond, List, [], ◌∷◌, ◌++◌, ℕ, zero, suc, ◌+◌, ◌-◌, ◌*◌, ◌≤◌, ◌<◌, leb, eqb, length, replicate, Option, Some, None}
 use Rattle.std.proofs.Common.{ap₂, arith, add-one, le-leb, leb-true, eqb-true, ne_eqb}
 use Rattle.std.proofs.lemmas.List.{replicate-append-replicate}
 use Rattle.std.proofs.lemmas.Bool.{eqb-false}
 use Rattle.common.specs.Tests.{and_true}
-use Rattle.line.specs.declared.Field.{Field}
-use Rattle.line.specs.declared.Field.TheVariants.{Value, Faulty}
 use Rattle.line.specs.Layout.{blank}
 use Rattle.line.specs.Field.{is_digit, digits, zero_alone, decimal, parse, digit, leading, columns}
 
@@ -21,24 +19,24 @@ digit_is_digit b e =
     let h = and_true (leb 48 b) (leb b 57) e in
     (leb-true 48 b h.0, leb-true b 57 h.1)
 
--- a faulty field holds no number
-pub faulty≢value : {v : ℕ} → Faulty ≡ Value v → ⊥
-faulty≢value e = let n : ◌≡◌ {A = ℕ} 0 1 = cc in omega arith
+-- nothing is no number
+pub none≢some : {v : ℕ} → None ≡ Some v → ⊥
+none≢some e = let n : ◌≡◌ {A = ℕ} 0 1 = cc in omega arith
 
 -- One more column -------------------------------------------------------------
 
 -- the field with one more byte after its last digit: nothing comes after a zero
-unfoldable pub extend : Field → ℕ → Field
-extend (Value zero) b = Faulty
-extend (Value (suc u)) b = cond (is_digit b) (Value (10 * suc u + (b - 48))) Faulty
-extend Faulty b = Faulty
+unfoldable pub extend : Option ℕ → ℕ → Option ℕ
+extend (Some zero) b = None
+extend (Some (suc u)) b = cond (is_digit b) (Some (10 * suc u + (b - 48))) None
+extend None b = None
 
 -- every byte is a blank
 unfoldable pub blanks : List ℕ → Bool
 blanks [] = true
 blanks (b ∷ bs) = eqb b blank && blanks bs
 
-cond_extend : (t : Bool) (f g : Field) (b : ℕ) → g ≡ extend f b → cond t g Faulty ≡ extend (cond t f Faulty) b
+cond_extend : (t : Bool) (f g : Option ℕ) (b : ℕ) → g ≡ extend f b → cond t g None ≡ extend (cond t f None) b
 unfolding extend
 cond_extend true f g b e = e
 cond_extend false f g b e = refl
@@ -60,8 +58,8 @@ unfolding decimal extend
 decimal_snoc c bs b = go (eqb c 48) (is_digit c) refl refl
   where
     go : (z d : Bool) → eqb c 48 ≡ z → is_digit c ≡ d
-        → cond z (zero_alone (bs ++ (b ∷ []))) (cond d (digits (c - 48) (bs ++ (b ∷ []))) Faulty)
-        ≡ extend (cond z (zero_alone bs) (cond d (digits (c - 48) bs) Faulty)) b
+        → cond z (zero_alone (bs ++ (b ∷ []))) (cond d (digits (c - 48) (bs ++ (b ∷ []))) None)
+        ≡ extend (cond z (zero_alone bs) (cond d (digits (c - 48) bs) None)) b
     go true d e i = zero_alone_snoc bs b
     go false false e i = refl
     go false true e i =
@@ -82,7 +80,7 @@ parse_snoc (c ∷ bs) b = go (eqb c blank) (parse_snoc bs b)
 
 -- Blanks ----------------------------------------------------------------------
 
-pub blanks_faulty : (bs : List ℕ) → blanks bs ≡ true → parse bs ≡ Faulty
+pub blanks_faulty : (bs : List ℕ) → blanks bs ≡ true → parse bs ≡ None
 unfolding parse blanks
 blanks_faulty [] e = refl
 blanks_faulty (b ∷ bs) e =

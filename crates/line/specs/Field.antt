@@ -1,8 +1,6 @@
 -- A field: a whole number in decimal, right-justified, blanks on its left, at least one digit, no leading zero. How it is read and how it is written.
 -- Assumes nothing.
-use Rattle.std.specs.Prelude.{Bool, true, false, ◌&&◌, cond, List, [], ◌∷◌, ◌++◌, ℕ, zero, suc, ◌+◌, ◌-◌, ◌*◌, ◌/◌, ◌%◌, leb, eqb}
-use Rattle.line.specs.declared.Field.{Field}
-use Rattle.line.specs.declared.Field.TheVariants.{Value, Faulty}
+use Rattle.std.specs.Prelude.{Bool, true, false, ◌&&◌, cond, List, [], ◌∷◌, ◌++◌, ℕ, zero, suc, ◌+◌, ◌-◌, ◌*◌, ◌/◌, ◌%◌, leb, eqb, Option, Some, None}
 use Rattle.line.specs.Layout.{width, blank}
 
 -- Reading --------------------------------------------------------------------
@@ -12,32 +10,32 @@ unfoldable pub is_digit : ℕ → Bool
 is_digit b = leb 48 b && leb b 57
 
 -- the digits after the first, where those before them have the value v
-unfoldable pub digits : ℕ → List ℕ → Field
-digits v [] = Value v
-digits v (b ∷ bs) = cond (is_digit b) (digits (10 * v + (b - 48)) bs) Faulty
+unfoldable pub digits : ℕ → List ℕ → Option ℕ
+digits v [] = Some v
+digits v (b ∷ bs) = cond (is_digit b) (digits (10 * v + (b - 48)) bs) None
 
 -- zero is one `0`: nothing comes after it
-unfoldable pub zero_alone : List ℕ → Field
-zero_alone [] = Value 0
-zero_alone (b ∷ bs) = Faulty
+unfoldable pub zero_alone : List ℕ → Option ℕ
+zero_alone [] = Some 0
+zero_alone (b ∷ bs) = None
 
 -- a whole number in decimal, without a leading zero: its first byte and the others
-unfoldable pub decimal : ℕ → List ℕ → Field
-decimal b bs = cond (eqb b 48) (zero_alone bs) (cond (is_digit b) (digits (b - 48) bs) Faulty)
+unfoldable pub decimal : ℕ → List ℕ → Option ℕ
+decimal b bs = cond (eqb b 48) (zero_alone bs) (cond (is_digit b) (digits (b - 48) bs) None)
 
 -- blanks, then a whole number, which has at least one digit
-unfoldable pub parse : List ℕ → Field
-parse [] = Faulty
+unfoldable pub parse : List ℕ → Option ℕ
+parse [] = None
 parse (b ∷ bs) = cond (eqb b blank) (parse bs) (decimal b bs)
 
 -- the number that a field holds, 0 for a faulty one
-unfoldable pub number_of : Field → ℕ
-number_of (Value v) = v
-number_of Faulty = 0
+unfoldable pub number_of : Option ℕ → ℕ
+number_of (Some v) = v
+number_of None = 0
 
-unfoldable pub is_faulty : Field → Bool
-is_faulty (Value v) = false
-is_faulty Faulty = true
+unfoldable pub is_faulty : Option ℕ → Bool
+is_faulty (Some v) = false
+is_faulty None = true
 
 -- Writing --------------------------------------------------------------------
 

@@ -1,91 +1,56 @@
--- How reading a field goes on by one column. Assumes nothing.
-use Rattle.std.specs.Prelude.{◌≡◌, ◌≢◌, true, false, List, ℕ, suc, ◌+◌, ◌-◌, ◌*◌, ◌^◌, ◌≤◌, ◌<◌, length, get_or, take, drop}
-use Rattle.std.proofs.Common.{sym, ap, ◌∙◌, mul-le-mul_right, mul_assoc, le_trans, mul-le-mul_left, mul-one}
+-- How reading a field goes on by one byte. Assumes nothing.
+use Rattle.std.specs.Prelude.{◌≡◌, refl, Bool, true, false, not, cond, List, [], ◌∷◌, ℕ, suc, ◌+◌, ◌-◌, ◌*◌, ◌^◌, ◌≤◌, ◌<◌, eqb, length, get_or, take, drop, Some, None}
+use Rattle.std.specs.Bool.{then_some}
+use Rattle.std.specs.List.{position, position_from}
+use Rattle.std.proofs.Common.{sym, ap, ◌∙◌, add-one, take_all, length-drop, drop-cons, drop_of_length-le, mul-le-mul_right, mul_assoc, le_trans, mul-le-mul_left, mul-one}
 use Rattle.std.proofs.Math.Nat.{pow-succ', one-le-pow, pow-le-pow_right}
+use Rattle.std.proofs.lemmas.Iterator.Adapters.{position_from-zero}
 use native.Mathlib.Omega.{arith}
 use borrow.Author.Tests.{eq-eqb, ne_eqb, le-leb, lt-leb}
-use Rattle.common.specs.Lists.{part}
-use Rattle.common.specs.ListLaws.{part_cons, part_none}
-use Rattle.line.specs.declared.Field.{Field}
-use Rattle.line.specs.declared.Field.TheVariants.{Value, Faulty}
 use Rattle.line.specs.Layout.{width, blank}
 use Rattle.line.specs.Field.{is_digit, digits, zero_alone, decimal, parse}
-use Rattle.line.specs.Parts.{Skipped, CanAdd}
+use Rattle.line.specs.Parts.{is_other}
+use Rattle.line.specs.ColumnLaws.{none≢some}
 
--- ---- tests of a byte
+-- ---- digits
 
-is_digit_lem : (b : ℕ) → 48 ≤ b → b ≤ 57 → is_digit b ≡ true
-unfolding is_digit
-is_digit_lem b h k = rw (le-leb 48 b h, le-leb b 57 k)
-
-below_digit : (b : ℕ) → b < 48 → is_digit b ≡ false
-unfolding is_digit
-below_digit b h = rw (lt-leb 48 b h)
-
-above_digit : (b : ℕ) → 57 < b → is_digit b ≡ false
-unfolding is_digit
-above_digit b h = rw (le-leb 48 b (omega arith), lt-leb b 57 h)
-
--- ---- blanks
-
-module _ (s : List ℕ) (from end : ℕ) (h : from < end) (k : end ≤ length s) where
-  pub parse_blank : get_or s from 0 ≡ blank → parse (part from end s) ≡ parse (part (from + 1) end s)
-  unfolding parse
-  parse_blank e = rw (part_cons s from end 0 h k, eq-eqb (get_or s from 0) blank e)
-
-  pub parse_other : get_or s from 0 ≢ blank → parse (part from end s) ≡ decimal (get_or s from 0) (part (from + 1) end s)
-  unfolding parse
-  parse_other e = rw (part_cons s from end 0 h k, ne_eqb (get_or s from 0) blank e)
-
-  -- ---- digits
-
-  pub digits_next : (v : ℕ) → 48 ≤ get_or s from 0 → get_or s from 0 ≤ 57
-      → digits v (part from end s) ≡ digits (v * 10 + (get_or s from 0 - 48)) (part (from + 1) end s)
+module _ (l : List ℕ) (i : ℕ) (h : i < length l) where
+  pub digits_next : (v : ℕ) → is_digit (get_or l i 0) ≡ true
+      → digits v (drop i l) ≡ digits (v * 10 + (get_or l i 0 - 48)) (drop (i + 1) l)
   unfolding digits
-  digits_next v a b =
-      rw (part_cons s from end 0 h k, is_digit_lem (get_or s from 0) a b)
-      (ap (λ n. digits n (part (from + 1) end s)) (swap (get_or s from 0 - 48)))
+  digits_next v e =
+      rw (drop-cons l i 0 h, e)
+      (ap (λ n. digits n (drop (suc i) l)) (swap (get_or l i 0 - 48)) ∙ ap (λ k. digits (v * 10 + (get_or l i 0 - 48)) (drop k l)) (sym (add-one i)))
     where
       swap : (d : ℕ) → 10 * v + d ≡ v * 10 + d
       swap d = omega arith
 
-  pub digits_below : (v : ℕ) → get_or s from 0 < 48 → Faulty ≡ digits v (part from end s)
+  pub digits_other : (v : ℕ) → is_digit (get_or l i 0) ≡ false → None ≡ digits v (drop i l)
   unfolding digits
-  digits_below v a = rw (part_cons s from end 0 h k, below_digit (get_or s from 0) a)
+  digits_other v e = rw (drop-cons l i 0 h, e)
 
-  pub digits_above : (v : ℕ) → 57 < get_or s from 0 → Faulty ≡ digits v (part from end s)
-  unfolding digits
-  digits_above v a = rw (part_cons s from end 0 h k, above_digit (get_or s from 0) a)
-
-pub digits_end : (s : List ℕ) (from end v : ℕ) → from ≡ end → Value v ≡ digits v (part from end s)
+pub digits_end : (l : List ℕ) (i v : ℕ) → length l ≤ i → Some v ≡ digits v (drop i l)
 unfolding digits
-digits_end s from end v e = rw (e, part_none s end)
-
-pub parse_end : (s : List ℕ) (from end : ℕ) → from ≡ end → Faulty ≡ parse (part from end s)
-unfolding parse
-parse_end s from end e = rw (e, part_none s end)
+digits_end l i v h = rw (drop_of_length-le l h)
 
 -- ---- a number's first byte
 
-pub decimal_zero : (s : List ℕ) (b from end : ℕ) → b ≡ 48 → from ≡ end → Value 0 ≡ decimal b (part from end s)
+pub decimal_zero : (b : ℕ) (bs : List ℕ) → b ≡ 48 → then_some (eqb (length bs) 0) 0 ≡ decimal b bs
 unfolding decimal zero_alone
-decimal_zero s b from end e f = rw (eq-eqb b 48 e, f, part_none s end)
+decimal_zero b [] e = rw (eq-eqb b 48 e)
+decimal_zero b (c ∷ bs) e = rw (eq-eqb b 48 e, ne_eqb (length (c ∷ bs)) 0 (omega arith))
 
-pub decimal_leading_zero : (s : List ℕ) (b from end : ℕ) → b ≡ 48 → from < end → end ≤ length s → Faulty ≡ decimal b (part from end s)
-unfolding decimal zero_alone
-decimal_leading_zero s b from end e h k = rw (eq-eqb b 48 e, part_cons s from end 0 h k)
+pub decimal_digit : (b : ℕ) (bs : List ℕ) → 49 ≤ b → b ≤ 57 → digits (b - 48) bs ≡ decimal b bs
+unfolding decimal is_digit
+decimal_digit b bs h k = rw (ne_eqb b 48 (omega arith), le-leb 48 b (omega arith), le-leb b 57 k)
 
-pub decimal_below : (b : ℕ) (bs : List ℕ) → b < 48 → Faulty ≡ decimal b bs
-unfolding decimal
-decimal_below b bs h = rw (ne_eqb b 48 (λ e. omega arith), below_digit b h)
+pub decimal_below : (b : ℕ) (bs : List ℕ) → b < 48 → None ≡ decimal b bs
+unfolding decimal is_digit
+decimal_below b bs h = rw (ne_eqb b 48 (omega arith), lt-leb 48 b h)
 
-pub decimal_above : (b : ℕ) (bs : List ℕ) → 57 < b → Faulty ≡ decimal b bs
-unfolding decimal
-decimal_above b bs h = rw (ne_eqb b 48 (λ e. omega arith), above_digit b h)
-
-pub decimal_digit : (b : ℕ) (bs : List ℕ) → b ≢ 48 → 48 ≤ b → b ≤ 57 → decimal b bs ≡ digits (b - 48) bs
-unfolding decimal
-decimal_digit b bs n h k = rw (ne_eqb b 48 n, is_digit_lem b h k)
+pub decimal_above : (b : ℕ) (bs : List ℕ) → 57 < b → None ≡ decimal b bs
+unfolding decimal is_digit
+decimal_above b bs h = rw (ne_eqb b 48 (omega arith), le-leb 48 b (omega arith), lt-leb b 57 h)
 
 -- ---- the number stays below 10 to the power of the width
 
@@ -103,7 +68,7 @@ room_next v d end i n h l r =
 pub room_value : (v k n : ℕ) → (v + 1) * 10 ^ k ≤ n → v + 1 ≤ n
 room_value v k n r = le_trans (rw mul-one at (mul-le-mul_left (v + 1) (one-le-pow k 10 (omega arith)))) r
 
--- after a first digit
+-- after a first digit, of bytes fewer than the width
 pub room_first : (d k : ℕ) → d ≤ 9 → k < width → (d + 1) * 10 ^ k ≤ 10 ^ width
 room_first d k h l =
     le_trans (mul-le-mul_right (10 ^ k) (bound d h)) (rw (← pow-succ' 10 k) (pow-le-pow_right (omega arith) l))
@@ -111,50 +76,51 @@ room_first d k h l =
     bound : (d : ℕ) → d ≤ 9 → d + 1 ≤ 10
     bound d h = omega arith
 
--- ---- a whole field, from the first place r that is not blank
+-- ---- blanks
 
-whole : (s : List ℕ) (at : ℕ) → part at (at + width) s ≡ take width (drop at s)
-whole s at = ap (λ n. take n (drop at s)) (size at)
+drop_suc : (b : ℕ) (l : List ℕ) (j : ℕ) → drop (suc j + 1) (b ∷ l) ≡ drop (j + 1) l
+drop_suc b l j = rw (add-one j, add-one (suc j)) refl
+
+-- the first byte that is no blank, counted from k, and the bytes after it are the number
+parse_other : (l : List ℕ) (k i : ℕ) → position_from is_other k l ≡ Some i
+    → (j : ℕ) × (i ≡ k + j) × (decimal (get_or l j 0) (drop (j + 1) l) ≡ parse l)
+unfolding parse
+parse_other [] k i e = absurd (none≢some e)
+parse_other (b ∷ l) k i e = go (eqb b blank) e (parse_other l (k + 1) i)
   where
-    size : (at : ℕ) → (at + width) - at ≡ width
+    go : (t : Bool) → cond (not t) (Some k) (position_from is_other (k + 1) l) ≡ Some i
+        → (position_from is_other (k + 1) l ≡ Some i → (j : ℕ) × (i ≡ k + 1 + j) × (decimal (get_or l j 0) (drop (j + 1) l) ≡ parse l))
+        → (j : ℕ) × (i ≡ k + j) × (decimal (get_or (b ∷ l) j 0) (drop (j + 1) (b ∷ l)) ≡ cond t (parse l) (decimal b l))
+    go true q f =
+        let r = f q in
+        (suc r.0, omega (arith, r.1), ap (decimal (get_or l r.0 0)) (drop_suc b l r.0) ∙ r.2)
+    go false q f = let n : k ≡ i = cc in (0, omega (arith, n), refl)
+
+-- every byte is a blank
+parse_blank : (l : List ℕ) (k : ℕ) → position_from is_other k l ≡ None → None ≡ parse l
+unfolding parse
+parse_blank [] k e = refl
+parse_blank (b ∷ l) k e = go (eqb b blank) e (parse_blank l (k + 1))
+  where
+    go : (t : Bool) → cond (not t) (Some k) (position_from is_other (k + 1) l) ≡ None
+        → (position_from is_other (k + 1) l ≡ None → None ≡ parse l) → None ≡ cond t (parse l) (decimal b l)
+    go true q f = f q
+    go false q f = absurd (none≢some (sym q))
+
+pub parse_at : (l : List ℕ) (i : ℕ) → position is_other l ≡ Some i
+    → decimal (get_or l i 0) (take (length l - (i + 1)) (drop (i + 1) l)) ≡ parse l
+parse_at l i e =
+    let r = parse_other l 0 i (sym (position_from-zero is_other l) ∙ e) in
+    let n : i ≡ r.0 = omega (arith, r.1) in
+    ap (decimal (get_or l i 0)) (take_all (length l - (i + 1)) (drop (i + 1) l) (omega (arith, length-drop (i + 1) l)))
+    ∙ ap (λ k. decimal (get_or l k 0) (drop (k + 1) l)) n ∙ r.2
+
+pub parse_none : (l : List ℕ) → position is_other l ≡ None → None ≡ parse l
+parse_none l e = parse_blank l 0 (sym (position_from-zero is_other l) ∙ e)
+
+-- a field is cut out of a list that has it
+pub field_cut : (s : List ℕ) (at : ℕ) → parse (take (at + width - at) (drop at s)) ≡ parse (take width (drop at s))
+field_cut s at = ap (λ n. parse (take n (drop at s))) (size at)
+  where
+    size : (at : ℕ) → at + width - at ≡ width
     size at = omega arith
-
-module _ (s : List ℕ) (at r : ℕ) (k : at + width ≤ length s) (z : Skipped s at (at + width) r) where
-  field_from : parse (take width (drop at s)) ≡ parse (part r (at + width) s)
-  field_from = ap parse (sym (whole s at)) ∙ z.left
-
-  pub field_blank : r ≡ at + width → Faulty ≡ parse (take width (drop at s))
-  field_blank e = parse_end s r (at + width) e ∙ sym field_from
-
-  module _ (n : r ≡ at + width → ⊥) where
-    inner : r < at + width
-    inner = let h = z.within in omega arith
-
-    field_number : decimal (get_or s r 0) (part (r + 1) (at + width) s) ≡ parse (take width (drop at s))
-    field_number = sym (field_from ∙ parse_other s r (at + width) inner k (z.stops inner))
-
-    pub field_zero : get_or s r 0 ≡ 48 → r + 1 ≡ at + width → Value 0 ≡ parse (take width (drop at s))
-    field_zero e l = decimal_zero s (get_or s r 0) (r + 1) (at + width) e l ∙ field_number
-
-    pub field_leading_zero : get_or s r 0 ≡ 48 → (r + 1 ≡ at + width → ⊥) → Faulty ≡ parse (take width (drop at s))
-    field_leading_zero e l =
-        decimal_leading_zero s (get_or s r 0) (r + 1) (at + width) e (let h = inner in omega arith) k ∙ field_number
-
-    pub field_below : get_or s r 0 < 48 → Faulty ≡ parse (take width (drop at s))
-    field_below h = decimal_below (get_or s r 0) (part (r + 1) (at + width) s) h ∙ field_number
-
-    pub field_above : 57 < get_or s r 0 → Faulty ≡ parse (take width (drop at s))
-    field_above h = decimal_above (get_or s r 0) (part (r + 1) (at + width) s) h ∙ field_number
-
-    module _ (m : get_or s r 0 ≡ 48 → ⊥) (a : 48 ≤ get_or s r 0) (b : get_or s r 0 ≤ 57) where
-      pub field_can_add : CanAdd s (r + 1) (at + width) (get_or s r 0 - 48)
-      field_can_add =
-          let h = inner in
-          record {
-            order = omega arith;
-            within = k;
-            room = room_first (get_or s r 0 - 48) ((at + width) - (r + 1)) (omega arith) (let l = z.after in omega arith);
-          }
-
-      pub field_digits : {x : Field} → x ≡ digits (get_or s r 0 - 48) (part (r + 1) (at + width) s) → x ≡ parse (take width (drop at s))
-      field_digits e = e ∙ sym (decimal_digit (get_or s r 0) (part (r + 1) (at + width) s) m a b) ∙ field_number

@@ -1,5 +1,5 @@
 -- A line that is written has its four numbers in its fields, and a line without a fault is the one that is written for its numbers. Assumes nothing.
-use Rattle.std.specs.Prelude.{◌≡◌, refl, Bool, true, false, ℕ, zero, suc, ◌+◌, ◌*◌, ◌/◌, ◌%◌, ◌^◌, ◌≤◌, ◌<◌, length, get_or, drop}
+use Rattle.std.specs.Prelude.{◌≡◌, refl, Bool, true, false, ℕ, zero, suc, ◌+◌, ◌*◌, ◌/◌, ◌%◌, ◌^◌, ◌≤◌, ◌<◌, length, get_or, drop, Option, Some, None}
 use Rattle.std.proofs.Common.{sym, ap, ◌∙◌, true≢false, arith, length-append, drop_of_length-le, drop-cons, get_or-take, get_or-drop, eqb-true, eq-eqb}
 use Rattle.std.proofs.Math.Path.{ap₂}
 use mathlib.Core.List.{List, [], ◌∷◌, ◌++◌}
@@ -7,8 +7,6 @@ use Rattle.std.proofs.lemmas.Bool.{not-false}
 use Rattle.common.specs.Tests.{or_false}
 use Rattle.common.specs.FromFirst.{from_first}
 use Rattle.common.specs.ChunkLaws.{chunk_zero, chunk_suc, get_d_append_past, length_chunk, drop_chunk}
-use Rattle.line.specs.declared.Field.{Field}
-use Rattle.line.specs.declared.Field.TheVariants.{Value, Faulty}
 use Rattle.line.specs.Layout.{width, fields, line_bytes, newline}
 use Rattle.line.specs.Field.{parse, number_of, is_faulty, write_field}
 use Rattle.line.specs.Line.{field_at, value_at, faulty_from, faulty_line, write_line}
@@ -50,7 +48,7 @@ closing_write_line a b c d =
     ∙ get_d_append_past width (write_field c) _ width 0 (length_write_field c)
     ∙ get_d_append_past width (write_field d) _ 0 0 (length_write_field d)
 
--- Faulty lines --------------------------------------------------------------------
+-- None lines --------------------------------------------------------------------
 
 -- n fields from f on are in the stated form, and the closing byte is there
 pub record Formed (l : List ℕ) (f n : ℕ) : Type 0 where
@@ -72,10 +70,10 @@ faulty_from_formed l f (suc n) h =
     rw (h.field f (omega arith) (omega arith)) (faulty_from_formed l (suc f) n (record { field = λ i p q. h.field i (omega arith) (omega arith); closing = h.closing }))
 
 -- a field without a fault holds its number
-value_number_of : (x : Field) → is_faulty x ≡ false → x ≡ Value (number_of x)
+value_number_of : (x : Option ℕ) → is_faulty x ≡ false → x ≡ Some (number_of x)
 unfolding is_faulty number_of
-value_number_of (Value v) e = refl
-value_number_of Faulty e = absurd (true≢false e)
+value_number_of (Some v) e = refl
+value_number_of None e = absurd (true≢false e)
 
 -- A line with byte 10 in one of its fields is faulty.
 pub faulty_early : (l : List ℕ) (i : ℕ) → i < width * fields → width * fields ≤ length l → get_or l i 0 ≡ newline → faulty_line l ≡ true
@@ -95,14 +93,14 @@ faulty_early l i h long e = go (faulty_from l 0 fields) refl
     whole : length (field_at l f) ≡ width
     whole = length_chunk width l f (omega arith)
 
-    field : parse (field_at l f) ≡ Faulty
+    field : parse (field_at l f) ≡ None
     field = parse_newline (field_at l f) (i % width) (omega (arith, whole)) byte
 
     go : (t : Bool) → faulty_from l 0 fields ≡ t → t ≡ true
     go true q = refl
     go false q = absurd (true≢false (ap is_faulty (sym field) ∙ (formed_faulty_from l 0 fields q).field f (omega arith) (omega arith)))
 
-is_faulty_value : (x : Field) (v : ℕ) → x ≡ Value v → is_faulty x ≡ false
+is_faulty_value : (x : Option ℕ) (v : ℕ) → x ≡ Some v → is_faulty x ≡ false
 unfolding is_faulty
 is_faulty_value x v e = rw e
 

@@ -1,63 +1,47 @@
 -- How a field is written by one column more, and a line by its fields. Assumes nothing.
-use Rattle.std.specs.Prelude.{◌≡◌, List, [], ◌∷◌, ◌++◌, ℕ, zero, suc, ◌+◌, ◌-◌, ◌*◌, ◌/◌, ◌%◌, ◌≤◌, ◌<◌, length, take, drop, set}
-use Rattle.std.proofs.Common.{sym, ap, ◌∙◌, arith, eq-eqb, ne_eqb, take-append-drop}
+use Rattle.std.specs.Prelude.{◌≡◌, refl, List, [], ◌∷◌, ◌++◌, ℕ, zero, suc, ◌+◌, ◌-◌, ◌*◌, ◌/◌, ◌%◌, ◌≤◌, ◌<◌, length, take, drop, set}
+use Rattle.std.proofs.Common.{ap, ap₂, ◌∙◌, arith, add-one, eq-eqb, ne_eqb, drop-drop}
+use Rattle.std.proofs.lemmas.List.{append_assoc, drop-set}
 use Rattle.common.specs.Buffers.{put_at}
 use Rattle.common.specs.BufferLaws.{length_put_at, put_at_append, set_put_at}
 use Rattle.line.specs.Layout.{width, fields, line_bytes, blank, newline}
 use Rattle.line.specs.Field.{digit, leading, columns, write_field}
 use Rattle.line.specs.Line.{write_line}
-use Rattle.line.specs.FieldLaws.{length_leading, length_write_field}
+use Rattle.line.specs.FieldLaws.{length_write_field}
 use Rattle.line.specs.Parts.{column}
 
 -- ---- a field's columns
 
-pub put_none : (at v : ℕ) (old : List ℕ) → old ≡ put_at at (leading 0 v) old
-unfolding put_at leading
-put_none at v old = sym (ap (λ n. take at old ++ drop n old) (plus_zero at) ∙ take-append-drop at old)
-  where
-    plus_zero : (n : ℕ) → n + 0 ≡ n
-    plus_zero n = omega arith
-
--- one column more
-pub put_column : (at n v : ℕ) (old mid : List ℕ) → 0 < n → at + n ≤ length old → mid ≡ put_at at (leading (n - 1) (v / 10)) old
-    → set mid (at + (n - 1)) (column v) ≡ put_at at (leading n v) old
+-- one column more, from the right: `left` is what the columns up to i are to show
+pub leading_next : (columns : List ℕ) (i left : ℕ) → 0 < i → i ≤ length columns
+    → leading i left ++ drop i columns ≡ leading (i - 1) (left / 10) ++ drop (i - 1) (set columns (i - 1) (column left))
 unfolding leading column
-put_column at zero v old mid p h e = absurd (omega arith)
-put_column at (suc n) v old mid p h e = rw (pred n) (go (rw (pred n) at e))
+leading_next columns zero left p h = absurd (omega arith)
+leading_next columns (suc j) left p h =
+    rw (pred j, drop-set columns j (column left) (omega arith), add-one j) (append_assoc (leading j (left / 10)) (column left ∷ []) (drop (suc j) columns))
   where
     pred : (n : ℕ) → suc n - 1 ≡ n
     pred n = omega arith
 
-    go : mid ≡ put_at at (leading n (v / 10)) old → set mid (at + n) (column v) ≡ put_at at (leading (suc n) v) old
-    go e =
-        set_put_at (at + n) (column v) mid (rw (e, length_put_at at (leading n (v / 10)) old (rw (length_leading n (v / 10)) (omega arith))) (omega arith))
-        ∙ ap (put_at (at + n) (column v ∷ [])) e
-        ∙ put_at_append at n (leading n (v / 10)) (column v ∷ []) old (length_leading n (v / 10)) (omega arith)
+-- the last two columns
+pub two_last : (v : ℕ) (columns others : List ℕ) → columns ≡ leading (width - 2) (v / 100) → length others ≡ 2
+    → set (set (columns ++ others) (width - 2) (column (v / 10))) (width - 1) (digit (v % 10)) ≡ write_field v
+unfolding leading column write_field columns
+two_last v c (x ∷ y ∷ []) e l = let hundreds : v / 100 ≡ v / 10 / 10 = omega arith in rw (e, hundreds) refl
+two_last v c [] e l = absurd (omega arith)
+two_last v c (x ∷ []) e l = absurd (omega arith)
+two_last v c (x ∷ y ∷ z ∷ zs) e l = absurd (omega arith)
 
--- the first column
-pub put_first : (at v : ℕ) (old : List ℕ) → at + 1 ≤ length old → set old at (column v) ≡ put_at at (leading 1 v) old
-put_first at v old h = ap (λ i. set old i (column v)) start ∙ put_column at 1 v old old (omega arith) h (put_none at (v / 10) old)
+-- what is written into a part of a field's length
+pub put_part : (at : ℕ) (old new field : List ℕ) → new ≡ field → length field ≡ width
+    → take at old ++ (new ++ drop (at + width - at) (drop at old)) ≡ put_at at field old
+unfolding put_at
+put_part at old new field e l =
+    ap₂ (λ (x : List ℕ) (k : ℕ). take at old ++ (x ++ drop k (drop at old))) e (size at)
+    ∙ ap (λ (r : List ℕ). take at old ++ (field ++ r)) (drop-drop (length field) at old)
   where
-    start : at ≡ at + (1 - 1)
-    start = omega arith
-
--- no digit is left
-pub put_blanks : (at : ℕ) (old : List ℕ) → at + (width - 2) ≤ length old
-    → set (set (set (set old at blank) (at + 1) blank) (at + 2) blank) (at + 3) blank ≡ put_at at (leading (width - 2) 0) old
-unfolding column
-put_blanks at old h =
-    put_column at 4 0 old _ (omega arith) (omega arith)
-    (put_column at 3 0 old _ (omega arith) (omega arith)
-    (put_column at 2 0 old _ (omega arith) (omega arith) (put_first at 0 old (omega arith))))
-
-pub put_last : (at v : ℕ) (old mid : List ℕ) → at + width ≤ length old → mid ≡ put_at at (leading (width - 1) (v / 10)) old
-    → set mid (at + (width - 1)) (digit (v % 10)) ≡ put_at at (write_field v) old
-unfolding write_field columns
-put_last at v old mid h e =
-    set_put_at (at + (width - 1)) (digit (v % 10)) mid
-    (rw (e, length_put_at at (leading (width - 1) (v / 10)) old (rw (length_leading (width - 1) (v / 10)) (omega arith))) (omega arith))
-    ∙ ap (put_at (at + (width - 1)) (digit (v % 10) ∷ [])) e
-    ∙ put_at_append at (width - 1) (leading (width - 1) (v / 10)) (digit (v % 10) ∷ []) old (length_leading (width - 1) (v / 10)) (omega arith)
+    size : (at : ℕ) → at + width - at ≡ length field
+    size at = omega (arith, l)
 
 pub column_blank : (v : ℕ) → v ≡ 0 → blank ≡ column v
 unfolding column

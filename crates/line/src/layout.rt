@@ -8,6 +8,6 @@ pub const FIELDS: usize = 4;
 pub const LINE: usize = 25;
 
 // the bytes that are not digits: a blank, and the byte that closes a line
-pub const BLANK: u8 = 32;
+pub const BLANK: u8 = b' ';
 
-pub const NEWLINE: u8 = 10;
+pub const NEWLINE: u8 = b'\n';

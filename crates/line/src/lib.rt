@@ -12,10 +12,3 @@ mod lines;
 // for the layers above: each asks that the field, or the line, lies within what is lent
 pub use fields::{field_faulty, field_number};
 pub use lines::put_line;
-
-// What a field holds: a number in the stated form, or something else.
-#[derive(Clone, Copy)]
-pub enum Field {
-    Value(u32),
-    Faulty,
-}

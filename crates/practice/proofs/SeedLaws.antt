@@ -1,13 +1,11 @@
 -- Which inputs are seeds: those of one field with a number from 0 to 99,999, closed by byte 10, and no others. Assumes
 -- nothing.
-use Rattle.std.specs.Prelude.{◌≡◌, ℕ, suc, ◌<◌, ◌≤◌, Bool, true, false, not, ◌||◌, List, [], ◌∷◌, ◌++◌, length, take, ◌==◌, ◌≢◌, nat_lt, slice_index, slice_index_or, refl}
+use Rattle.std.specs.Prelude.{◌≡◌, ℕ, suc, ◌<◌, ◌≤◌, Bool, true, false, not, ◌||◌, List, [], ◌∷◌, ◌++◌, length, take, ◌==◌, ◌≢◌, nat_lt, slice_index, slice_index_or, refl, Option, Some, None}
 use Rattle.std.proofs.Math.Path.{ap}
 use Rattle.std.proofs.Common.{ap₂, ◌∙◌, true≢false, arith, take_at, length-take-le, get_or-append-add}
 use Rattle.std.proofs.Math.ListN.{length-append}
 use borrow.Author.Tests.{eq-eqb, eqb-true, ne_eqb, not-false, le-ltb, lt-ltb, ltb-false}
 use Rattle.common.specs.Tests.{or_false}
-use Rattle.line.specs.declared.Field.{Field}
-use Rattle.line.specs.declared.Field.TheVariants.{Value, Faulty}
 use Rattle.line.specs.Layout.{width, newline}
 use Rattle.line.specs.Field.{parse, number_of, is_faulty, write_field}
 use Rattle.line.specs.FieldLaws.{parse_write_field, write_field_parse, length_write_field, snoc_of}
@@ -45,7 +43,7 @@ module _ (b : List ℕ) where
 -- The input of a seed ------------------------------------------------------------------------
 
 module _ (seed : ℕ) (h : seed ≤ max_seed) where
-  field : parse (take width (seed_input seed)) ≡ Value seed
+  field : parse (take width (seed_input seed)) ≡ Some seed
   field = ap parse (take_at (write_field seed) (newline ∷ []) width (length_write_field seed)) ∙ parse_write_field seed (omega arith)
 
   pub seed_fine : faulty_seed (seed_input seed) ≡ false
@@ -102,8 +100,8 @@ seed_there b e = go (parse (take width b)) refl h.0 most
     front : length (take width b) ≡ width
     front = length-take-le width b (omega (arith, long))
 
-    go : (f : Field) → parse (take width b) ≡ f → is_faulty f ≡ false → number_of (parse (take width b)) ≤ max_seed
+    go : (f : Option ℕ) → parse (take width b) ≡ f → is_faulty f ≡ false → number_of (parse (take width b)) ≤ max_seed
         → (seed : ℕ) × (seed ≤ max_seed) × (b ≡ seed_input seed)
-    go (Value v) p q m =
+    go (Some v) p q m =
         (v, rw p at m, snoc_of width b long ∙ ap₂ (λ x y. x ++ (y ∷ [])) (write_field_parse (take width b) v front p) closing)
-    go Faulty p q m = absurd (true≢false q)
+    go None p q m = absurd (true≢false q)

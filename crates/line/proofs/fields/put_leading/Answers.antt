@@ -1,50 +1,22 @@
--- `line::fields::put_leading` meets its contract: four blanks where no digit is left, else one column after another.
--- Assumes nothing.
-use mathlib.Core.Path.{sym, ap, ◌∙◌}
-use Prim.Native.Nat.{◌/◌, ◌-◌}
-use native.Mathlib.Omega.{arith}
-use lib.ListN.{length-set}
-use Rattle.common.specs.Buffers.{put_at}
-use Rattle.line.specs.Layout.{width}
+-- `line::fields::put_leading` meets its contract. Assumes nothing.
+use Rattle.std.proofs.Common.{◌-◌, sym, ap, ◌∙◌, arith, ◌≡◌, replicate, append-nil, drop_of_length-le}
+use Rattle.line.specs.Layout.{width, blank}
 use Rattle.line.specs.Field.{leading}
-use Rattle.line.specs.PutLaws.{put_first, put_column, put_blanks}
+use Rattle.line.specs.ColumnLaws.{leading_zero}
+use Rattle.line.specs.PutLaws.{leading_next}
 use Rattle.line.proofs.fields.put_leading.Goals as goal
 
-pub bounds-out-at-then-rest-eq0 : goal.bounds-out-at-then-rest-eq0
-bounds-out-at-then-rest-eq0 c = simp length-set (omega arith)
-
-pub bounds-out-at-then-rest-eq0-2 : goal.bounds-out-at-then-rest-eq0-2
-bounds-out-at-then-rest-eq0-2 c = simp length-set (omega arith)
-
-pub bounds-out-at-then-rest-eq0-3 : goal.bounds-out-at-then-rest-eq0-3
-bounds-out-at-then-rest-eq0-3 c = simp length-set (omega arith)
-
-pub bounds-out-at-else-rest-eq0-2 : goal.bounds-out-at-else-rest-eq0-2
-bounds-out-at-else-rest-eq0-2 c = simp length-set (omega arith)
-
-pub bounds-out-at-else-rest-eq0-3 : goal.bounds-out-at-else-rest-eq0-3
-bounds-out-at-else-rest-eq0-3 c = simp length-set (omega arith)
-
-pub bounds-out-at-else-rest-eq0-4 : goal.bounds-out-at-else-rest-eq0-4
-bounds-out-at-else-rest-eq0-4 c = simp length-set (omega arith)
-
 pub returns-then-rest-eq0 : goal.returns-then-rest-eq0
-returns-then-rest-eq0 c = let at = c.args.at in
-    let old = c.args.out.now in
-    put_blanks at old c.requires ∙ ap (λ r. put_at at (leading (width - 2) r) old) (sym c.if-rest-eq0.true)
+returns-then-rest-eq0 c =
+    c.fill.ensures.after (λ y e. e) ∙ ap (λ n. replicate n blank) c.requires ∙ sym (leading_zero (width - 2)) ∙ ap (leading (width - 2)) (sym c.if-rest-eq0.true)
 
-pub returns-else-rest-eq0 : goal.returns-else-rest-eq0
-returns-else-rest-eq0 c = let at = c.args.at in
-    let rest = c.args.rest in
-    let old = c.args.out.now in
-    let h = c.requires in
-    rw (
-      c.column_byte-a.ensures,
-      c.column_byte-b.ensures,
-      c.column_byte-c.ensures,
-      c.column_byte-d.ensures,
-    )
-    (put_column at 4 rest old _ (omega arith) (omega arith)
-    (put_column at 3 (rest / 10) old _ (omega arith) (omega arith)
-    (put_column at 2 (rest / 10 / 10) old _ (omega arith) (omega arith)
-    (put_first at (rest / 10 / 10 / 10) old (omega arith)))))
+pub loop-i-init : goal.loop-i-init
+loop-i-init c = rw (drop_of_length-le c.args.columns.now {i = width - 2} (omega arith), append-nil)
+
+pub loop-i-preserved : goal.loop-i-preserved
+loop-i-preserved c =
+    c.loop-i.invariant ∙ rw c.column_byte.ensures (leading_next c.loop-i.columns c.loop-i.i c.loop-i.left c.loop-i-test.true (omega arith))
+
+pub returns : goal.returns
+unfolding leading
+returns c = let none : c.loop-i.i ≡ 0 = omega arith in sym (rw none at c.loop-i.invariant)

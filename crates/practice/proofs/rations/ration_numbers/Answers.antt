@@ -1,5 +1,5 @@
 -- `practice::rations::ration_numbers` meets its contract. Assumes nothing.
-use Rattle.std.proofs.Common.{◌-◌, arith}
+use Rattle.std.proofs.Common.{arith}
 use Rattle.practice.proofs.PracticeLaws.{drawing_begin, drawing_next, drawing_end}
 use Rattle.practice.proofs.rations.ration_numbers.Goals as goal
 
