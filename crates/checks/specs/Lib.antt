@@ -1,8 +1,10 @@
 -- Definitions, in reading order
 pub mod Limits
 pub mod Refusals
+pub mod FaultNumbers
 pub mod Sheet
 pub mod Checks
+pub mod Verdicts
 pub mod CallChecks
 -- Laws of the definitions
 pub mod RangeLaws

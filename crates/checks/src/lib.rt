@@ -5,14 +5,16 @@
 // refusals are here for every crate above.
 #![tactic(auto)]
 
+mod faults;
 pub mod limits;
 pub mod refusals;
 mod values;
 
+pub use faults::Fault;
 pub use values::{head_refusal, rations_refusal, value_refusal};
 
 // A refusal's number and the line that it names; 0 and 0 where nothing is refused.
-#[derive(Clone, Copy)]
+#[derive(Clone, Copy, PartialEq, Eq)]
 pub struct Refusal {
     pub number: u32,
     pub line: u32,

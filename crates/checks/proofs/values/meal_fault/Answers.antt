@@ -1,12 +1,13 @@
 -- `checks::values::meal_fault` meets its contract. Assumes nothing.
-use borrow.Author.Tests.{eq-eqb, ne_eqb}
+use Rattle.std.proofs.Common.{arith}
+use Rattle.std.proofs.lemmas.Grind.{common_steps}
 use Rattle.checks.specs.Checks.{meal_fault}
 use Rattle.checks.proofs.values.meal_fault.Goals as goal
 
 pub returns-then-tank-before : goal.returns-then-tank-before
 unfolding meal_fault
-returns-then-tank-before c = simp (ne_eqb _ _ c.if-tank-before.true)
+returns-then-tank-before c = grind (arith, common_steps)
 
-pub returns : goal.returns
+pub returns-else-tank-before : goal.returns-else-tank-before
 unfolding meal_fault
-returns c = simp (eq-eqb _ _ c.if-tank-before.false)
+returns-else-tank-before c = grind (arith, common_steps)

@@ -1,72 +1,29 @@
--- `checks::values::rations_refusal` meets its contract. What is refused of the rations from one on, after the tank and
--- the last slot before it, is what is refused of all. Assumes nothing.
-use mathlib.Core.Path.{sym, ◌∙◌}
-use Prim.Native.Nat.{◌+◌, ◌-◌}
+-- `checks::values::rations_refusal` meets its contract. Assumes nothing.
+use mathlib.Core.Path.{refl, sym, ap, ◌∙◌}
+use Prim.Native.Nat.{◌+◌}
+use Rattle.std.proofs.Common.{arith}
+use Rattle.std.proofs.lemmas.Result.{err_from_is_err_and}
 use Rattle.checks.specs.CheckSteps.{rations_begin, rations_end, rations_hit, rations_miss}
-use native.Mathlib.Omega.{arith}
+use Rattle.checks.proofs.VerdictLaws.{ok_verdict, err_verdict, verdict_ok, verdict_is}
 use Rattle.checks.proofs.values.rations_refusal.Goals as goal
 
 pub loop-i-init : goal.loop-i-init
-loop-i-init c = (omega arith, omega arith, omega arith, rations_begin c.args.slots c.args.n c.args.numbers.now (omega arith))
+loop-i-init c = rations_begin c.args.slots c.args.n c.args.numbers.now (omega arith)
 
-pub overflow_mul-at : goal.overflow_mul-at
-overflow_mul-at c = omega arith
-
-pub offset_bounds-numbers-at : goal.offset_bounds-numbers-at
-offset_bounds-numbers-at c = omega arith
-
-pub bounds-numbers-at : goal.bounds-numbers-at
-bounds-numbers-at c = omega arith
-
-pub overflow_add-deadline : goal.overflow_add-deadline
-overflow_add-deadline c = omega arith
-
-pub offset_bounds-numbers-at-in-loop-i : goal.offset_bounds-numbers-at-in-loop-i
-offset_bounds-numbers-at-in-loop-i c = omega arith
-
-pub bounds-numbers-at-in-loop-i : goal.bounds-numbers-at-in-loop-i
-bounds-numbers-at-in-loop-i c = omega arith
-
-pub overflow_cast-i : goal.overflow_cast-i
-overflow_cast-i c = omega arith
-
-pub overflow_add-i : goal.overflow_add-i
-overflow_add-i c = omega arith
-
-pub overflow_add-at : goal.overflow_add-at
-overflow_add-at c = omega arith
-
-pub offset_bounds-numbers-at-in-loop-i-2 : goal.offset_bounds-numbers-at-in-loop-i-2
-offset_bounds-numbers-at-in-loop-i-2 c = omega arith
-
-pub bounds-numbers-at-in-loop-i-2 : goal.bounds-numbers-at-in-loop-i-2
-bounds-numbers-at-in-loop-i-2 c = omega arith
-
-pub overflow_add-at-in-loop-i : goal.overflow_add-at-in-loop-i
-overflow_add-at-in-loop-i c = omega arith
-
-pub offset_bounds-numbers-at-in-loop-i-3 : goal.offset_bounds-numbers-at-in-loop-i-3
-offset_bounds-numbers-at-in-loop-i-3 c = omega arith
-
-pub bounds-numbers-at-in-loop-i-3 : goal.bounds-numbers-at-in-loop-i-3
-bounds-numbers-at-in-loop-i-3 c = omega arith
-
-pub returns-then-r-ne0 : goal.returns-then-r-ne0
-returns-then-r-ne0 c = rations_hit c.args.slots c.args.n c.args.numbers.now (omega arith) c.loop-i.i (omega arith) (c.loop-i.i + 2) c.loop-i.before c.loop-i.until _ c.ration_refusal-r.ensures c.if-r-ne0.true ∙ sym c.loop-i.invariant.3
-
-pub overflow_add-i-in-loop-i : goal.overflow_add-i-in-loop-i
-overflow_add-i-in-loop-i c = omega arith
-
-pub loop-i-smaller : goal.loop-i-smaller
-loop-i-smaller c = omega arith
+pub returns-in_err-ration_refusal : goal.returns-in_err-ration_refusal
+returns-in_err-ration_refusal c =
+    let p = err_from_is_err_and c.from_residual.result c.from_residual.ensures.1 in
+    let v = err_verdict _ _ (sym c.in_err-ration_refusal.was ∙ c.ration_refusal.ensures) in
+    rw (p.1, p.2) (verdict_is (rations_hit c.args.slots c.args.n c.args.numbers.now (omega arith) c.loop-i.i (omega arith) (c.loop-i.i + 2)
+    c.loop-i.before c.loop-i.until _ v.0 v.1 ∙ sym c.loop-i.invariant) v.1)
 
 pub loop-i-preserved : goal.loop-i-preserved
-loop-i-preserved c = (
-  omega arith,
-  omega arith,
-  omega arith,
-  c.loop-i.invariant.3 ∙ rations_miss c.args.slots c.args.n c.args.numbers.now (omega arith) c.loop-i.i (omega arith) (c.loop-i.i + 2) c.loop-i.before c.loop-i.until _ c.ration_refusal-r.ensures (c.loop-i.i + 1 + 2) (omega arith) c.if-r-ne0.false,
-)
+loop-i-preserved c =
+    c.loop-i.invariant ∙ rations_miss c.args.slots c.args.n c.args.numbers.now (omega arith) c.loop-i.i (omega arith) (c.loop-i.i + 2)
+    c.loop-i.before c.loop-i.until _ refl (c.loop-i.i + 1 + 2) (omega arith)
+    (ok_verdict _ (sym c.in_ok-ration_refusal.was ∙ c.ration_refusal.ensures))
 
 pub returns : goal.returns
-returns c = rations_end c.args.slots c.args.n c.args.numbers.now (omega arith) (c.loop-i.i + 2) c.loop-i.before c.loop-i.until c.loop-i.i (omega arith) ∙ sym c.loop-i.invariant.3
+returns c =
+    verdict_ok _ (ap (λ r. r.number) (c.loop-i.invariant ∙ sym (rations_end c.args.slots c.args.n c.args.numbers.now (omega arith)
+    (c.loop-i.i + 2) c.loop-i.before c.loop-i.until c.loop-i.i (omega arith))))

@@ -1,16 +1,13 @@
 -- `checks::values::tank_fault` meets its contract. Assumes nothing.
-use borrow.Author.Tests.{lt-ltb, le-ltb}
+use Rattle.std.proofs.Common.{arith}
+use Rattle.std.proofs.lemmas.Grind.{common_steps}
 use Rattle.checks.specs.Checks.{outside, tank_fault}
 use Rattle.checks.proofs.values.tank_fault.Goals as goal
 
-pub returns-then-tank-lt1 : goal.returns-then-tank-lt1
+pub returns-then-not-contains : goal.returns-then-not-contains
 unfolding outside tank_fault
-returns-then-tank-lt1 c = simp (lt-ltb _ _ c.if-tank-lt1.true)
+returns-then-not-contains c = grind (arith, common_steps)
 
-pub returns-then-tank-gt-MAX_TANK : goal.returns-then-tank-gt-MAX_TANK
+pub returns-else-not-contains : goal.returns-else-not-contains
 unfolding outside tank_fault
-returns-then-tank-gt-MAX_TANK c = simp (le-ltb _ _ c.if-tank-lt1.false, lt-ltb _ _ c.if-tank-gt-MAX_TANK.true)
-
-pub returns : goal.returns
-unfolding outside tank_fault
-returns c = simp (le-ltb _ _ c.if-tank-lt1.false, le-ltb _ _ c.if-tank-gt-MAX_TANK.false)
+returns-else-not-contains c = grind (arith, common_steps)
