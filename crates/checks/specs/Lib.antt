@@ -12,6 +12,7 @@ pub mod NumbersLaws
 pub mod SheetLaws
 pub mod FirstFaultyLaws
 pub mod FaultLaws
+pub mod RangeProps
 pub mod WellFormedLaws
 pub mod EarlyClosingLaws
 -- What the functions within the crate are given, and the steps of their loops

@@ -1,4 +1,5 @@
 pub mod CallLaws
+pub mod FeedSheetLaws
 pub mod FirstRefusalLaws
 pub mod LineSteps
 pub mod OwnCheckLaws

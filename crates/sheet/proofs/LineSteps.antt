@@ -1,7 +1,8 @@
 -- How the search for a faulty line goes on by one field and by one line, and where a line's fields stand in the sheet. Assumes nothing.
-use Rattle.std.specs.Prelude.{◌≡◌, refl, true, false, ◌||◌, not, List, eqb, length, get_or, take, drop, set}
+use Rattle.std.specs.Prelude.{◌≡◌, refl, Bool, Some, None, true, false, ◌||◌, not, List, eqb, length, get_or, take, drop, set}
 use Rattle.std.proofs.Math.Path.{sym, ap}
-use Rattle.std.proofs.Common.{◌∙◌, add-one, take-add, take-take, drop_at, drop-drop, length-take-le, get_or-take, eq-eqb, ne_eqb}
+use Rattle.std.proofs.Common.{◌∙◌, add-one, take-add, take-take, drop_at, drop-drop, length-take-le, get_or-take, eqb-true, ne_eqb}
+use Rattle.std.proofs.lemmas.Bool.{eqb-false}
 use Rattle.std.proofs.Math.Bool.{cond}
 use Prim.Native.Nat.{ℕ, zero, suc, ◌+◌, ◌-◌, ◌*◌, ◌≤◌, ◌<◌}
 use native.Mathlib.Omega.{arith}
@@ -14,6 +15,7 @@ use Rattle.line.specs.Field.{parse, number_of, is_faulty}
 use Rattle.line.specs.Line.{field_at, value_at, faulty_from, faulty_line}
 use Rattle.checks.specs.Sheet.{line_at, job_at, job_numbers}
 use Rattle.checks.specs.Checks.{first_faulty}
+use Rattle.sheet.specs.Parts.{some_line}
 
 -- ---- places in the sheet
 
@@ -67,15 +69,9 @@ module _ (s : List ℕ) (i : ℕ) (h : line_bytes * i + line_bytes ≤ length s)
       ∙ ap (λ x. is_faulty (parse x) || faulty_from (line_at s i) (f + 1) (fields - (f + 1))) (sym (field_place f l) ∙ ap (λ n. take width (drop n s)) (sym e))
       ∙ ap (λ b. b || faulty_from (line_at s i) (f + 1) (fields - (f + 1))) t
 
-  closing : (f : ℕ) → f ≡ fields → faulty_from (line_at s i) f (fields - f) ≡ not (eqb (get_or s (line_bytes * i + width * fields) 0) newline)
+  pub closing : (f : ℕ) → f ≡ fields → faulty_from (line_at s i) f (fields - f) ≡ not (eqb (get_or s (line_bytes * i + width * fields) 0) newline)
   unfolding faulty_from
   closing f e = rw (e, closing_place)
-
-  pub closing_hit : (f at : ℕ) → f ≡ fields → at ≡ line_bytes * i + width * fields → (get_or s at 0 ≡ newline → ⊥) → faulty_from (line_at s i) f (fields - f) ≡ true
-  closing_hit f at e p n = closing f e ∙ ap not (ap (λ x. eqb (get_or s x 0) newline) (sym p) ∙ ne_eqb (get_or s at 0) newline n)
-
-  pub closing_miss : (f at : ℕ) → f ≡ fields → at ≡ line_bytes * i + width * fields → get_or s at 0 ≡ newline → faulty_from (line_at s i) f (fields - f) ≡ false
-  closing_miss f at e p n = closing f e ∙ ap not (ap (λ x. eqb (get_or s x 0) newline) (sym p) ∙ eq-eqb (get_or s at 0) newline n)
 
 -- ---- one line more
 
@@ -110,6 +106,24 @@ module _ (s : List ℕ) (i n : ℕ) where
 
     pub first_miss : faulty_line (line_at s i) ≡ false → first_faulty s i (n - i) ≡ first_faulty s (i + 1) (n - (i + 1))
     first_miss e = first_next ∙ ap (λ b. cond b (i + 1) (first_faulty s (i + 1) (n - (i + 1)))) e
+
+-- a line that is found
+pub some_first : (k n : ℕ) → n ≡ k + 1 → Some (k + 1) ≡ some_line n
+some_first k n e = rw (e, ne_eqb (k + 1) 0 (omega arith)) refl
+
+pub first_some : (k n : ℕ) → Some k ≡ some_line n → (k ≡ n) × (n ≡ 0 → ⊥)
+first_some k n e = go (eqb n 0) refl e
+  where
+    go : (t : Bool) → eqb n 0 ≡ t → Some k ≡ cond t None (Some n) → (k ≡ n) × (n ≡ 0 → ⊥)
+    go true q h = grind arith
+    go false q h = (grind arith, eqb-false n 0 q)
+
+pub first_none : (n : ℕ) → None ≡ some_line n → n ≡ 0
+first_none n e = go (eqb n 0) refl e
+  where
+    go : (t : Bool) → eqb n 0 ≡ t → None ≡ cond t None (Some n) → n ≡ 0
+    go true q h = eqb-true n 0 q
+    go false q h = grind arith
 
 -- ---- four numbers that are put
 

@@ -1,14 +1,15 @@
 -- How reading a sheet goes on: the form, and the answer. Assumes nothing.
-use Rattle.std.specs.Prelude.{◌≡◌, Bool, true, false, ◌||◌, cond, List, [], ◌++◌, map, ℕ, zero, suc, ◌+◌, ◌-◌, ◌*◌, ◌/◌, ◌%◌, ◌≤◌, ◌<◌, ltb, eqb, take}
+use Rattle.std.specs.Prelude.{◌≡◌, Bool, true, false, ◌||◌, cond, List, [], ◌++◌, map, ℕ, zero, suc, ◌+◌, ◌-◌, ◌*◌, ◌%◌, ◌≤◌, ltb, eqb, take, drop}
 use Rattle.std.proofs.Math.Path.{sym, ap}
 use Rattle.std.proofs.Common.{◌∙◌, append_assoc, arith}
 use Rattle.std.proofs.Math.Bool.{not}
 use Rattle.std.proofs.Math.ListN.{length}
-use borrow.Author.Tests.{lt-ltb, le-ltb, eq-eqb, ne_eqb, eqb-true}
+use borrow.Author.Tests.{eq-eqb, ne_eqb, eqb-true}
 use Rattle.common.specs.Lists.{range}
 use Rattle.common.specs.Buffers.{padded}
 use Rattle.common.specs.FillLaws.{take_padded}
-use Rattle.line.specs.Layout.{fields, line_bytes}
+use Rattle.line.specs.Layout.{width, fields, line_bytes}
+use Rattle.line.specs.Field.{parse, number_of}
 use Rattle.line.specs.Line.{value_at, faulty_line}
 use Rattle.checks.specs.declared.Refusal.{Refusal}
 use Rattle.checks.specs.Limits.{max_bytes, max_rations}
@@ -18,10 +19,11 @@ use Rattle.checks.specs.Checks.{first_refusal, outside, length_faults, first_fau
 use Rattle.sheet.specs.Calls.{accepted, refused, reading_from, reading_of}
 use Rattle.checks.specs.NumbersLaws.{jobs_of_numbers_of, length_numbers_to}
 use Rattle.checks.specs.SheetLaws.{length_jobs_sheet_of}
-use Rattle.checks.specs.FaultLaws.{Numbered, numbered_fault, numbered_before, numbered_head_faults}
+use Rattle.checks.specs.FaultLaws.{append_nil_parts, Numbered, numbered_fault, numbered_before, numbered_head_faults}
 use Rattle.checks.specs.RangeLaws.{HeadInRange, in_range_head_faults}
-use Rattle.sheet.specs.Parts.{FormChecked}
+use Rattle.checks.specs.WellFormedLaws.{whole_length_faults}
 use Rattle.checks.specs.Parts.{head}
+use Rattle.sheet.proofs.LineSteps.{value_place}
 use Rattle.checks.specs.CheckSteps.{first_left, first_right}
 
 -- ---- 1 and 2
@@ -35,51 +37,24 @@ first_faulty_le b i (suc n) = go (faulty_line (line_at b i)) (first_faulty_le b 
     go true h = omega arith
     go false h = omega arith
 
-module _ (b : List ℕ) where
-  pub form_short : length b < line_bytes → FormChecked b (record { number = bad_length; line = 0 })
-  unfolding first_refusal length_faults outside
-  form_short h = record { answer = rw (lt-ltb (length b) line_bytes h); least = λ e. absurd (omega arith); most = λ e. absurd (omega arith) }
+-- ---- the head line's numbers, as they are read
 
-  module _ (h : line_bytes ≤ length b) where
-    pub form_long : max_bytes < length b → FormChecked b (record { number = bad_length; line = 0 })
-    unfolding first_refusal length_faults outside
-    form_long k =
-        record {
-          answer = rw (le-ltb (length b) line_bytes h, lt-ltb max_bytes (length b) k);
-          least = λ e. absurd (omega arith);
-          most = λ e. absurd (omega arith);
-        }
+pub record HeadRead (b : List ℕ) (slots blowers wake rations : ℕ) : Type 0 where
+  pub slots_is : slots ≡ value_at (line_at b 0) 0
+  pub blowers_is : blowers ≡ value_at (line_at b 0) 1
+  pub wake_is : wake ≡ value_at (line_at b 0) 2
+  pub rations_is : rations ≡ value_at (line_at b 0) 3
 
-    module _ (k : length b ≤ max_bytes) where
-      pub form_odd : (length b % line_bytes ≡ 0 → ⊥) → FormChecked b (record { number = bad_length; line = 0 })
-      unfolding first_refusal length_faults outside
-      form_odd n =
-          record {
-            answer = rw (le-ltb (length b) line_bytes h, le-ltb max_bytes (length b) k, ne_eqb (length b % line_bytes) 0 n);
-            least = λ e. absurd (omega arith);
-            most = λ e. absurd (omega arith);
-          }
-
-      module _ (e : length b % line_bytes ≡ 0) (line : ℕ) (f : line ≡ first_faulty b 0 (length b / line_bytes)) where
-        pub form_fine : line ≡ 0 → FormChecked b (record { number = 0; line = 0 })
-        unfolding first_refusal length_faults form_faults outside line_count
-        form_fine z =
-            record {
-              answer = rw (le-ltb (length b) line_bytes h, le-ltb max_bytes (length b) k, eq-eqb (length b % line_bytes) 0 e, ← f, z);
-              least = λ _. h;
-              most = λ _. k;
-            }
-
-        pub form_faulty : (line ≡ 0 → ⊥) → FormChecked b (record { number = bad_form; line = line })
-        unfolding first_refusal length_faults form_faults outside line_count
-        form_faulty n =
-            record {
-              answer =
-                  rw
-                  (le-ltb (length b) line_bytes h, le-ltb max_bytes (length b) k, eq-eqb (length b % line_bytes) 0 e, ← f, lt-ltb 0 line (omega arith));
-              least = λ x. absurd (omega arith);
-              most = λ x. absurd (omega arith);
-            }
+pub head_read : (b : List ℕ) → line_bytes ≤ length b → {slots blowers wake rations : ℕ} → slots ≡ number_of (parse (take width (drop 0 b)))
+    → blowers ≡ number_of (parse (take width (drop width b))) → wake ≡ number_of (parse (take width (drop (width * 2) b)))
+    → rations ≡ number_of (parse (take width (drop (width * 3) b))) → HeadRead b slots blowers wake rations
+head_read b l p q r t =
+    record {
+      slots_is = p ∙ value_place b 0 l 0 0 (omega arith) (omega arith);
+      blowers_is = q ∙ value_place b 0 l 1 width (omega arith) (omega arith);
+      wake_is = r ∙ value_place b 0 l 2 (width * 2) (omega arith) (omega arith);
+      rations_is = t ∙ value_place b 0 l 3 (width * 3) (omega arith) (omega arith);
+    }
 
 -- ---- the answer
 
@@ -121,22 +96,28 @@ module _ (b : List ℕ) where
   unfolding faults
   faults_split = sym (append_assoc (length_faults b) (form_faults b) values)
 
-  module _ (form : Refusal) (f : FormChecked b form) where
+  module _ (form : Refusal) (f : form ≡ first_refusal (length_faults b ++ form_faults b)) where
     -- refused by 1 or 2
     pub form_refused : (form.number ≡ 0 → ⊥) → refused form ≡ reading_of b
     form_refused n =
         answer_refused b form
-        (f.answer ∙ first_left (length_faults b ++ form_faults b) values (λ z. n (ap (λ r. r.number) f.answer ∙ z)) ∙ ap first_refusal (sym faults_split)) n
+        (f ∙ first_left (length_faults b ++ form_faults b) values (λ z. n (ap (λ r. r.number) f ∙ z)) ∙ ap first_refusal (sym faults_split)) n
 
     module _ (z : form.number ≡ 0) where
-      form_passed : first_refusal (faults b) ≡ first_refusal values
-      form_passed = ap first_refusal faults_split ∙ first_right (length_faults b ++ form_faults b) values (numbered_form (sym (ap (λ r. r.number) f.answer) ∙ z))
+      -- not refused by 1 and 2, it has a first line
+      pub form_long : line_bytes ≤ length b
+      form_long =
+          let none = numbered_form (sym (ap (λ r. r.number) f) ∙ z) in
+          (whole_length_faults b (append_nil_parts (length_faults b) (form_faults b) none).0).0.ge
 
-      module _ (slots blowers wake rations : ℕ) (s₀ : slots ≡ value_at (line_at b 0) 0) (s₁ : blowers ≡ value_at (line_at b 0) 1) (s₂ : wake ≡ value_at (line_at b 0) 2)
-          (s₃ : rations ≡ value_at (line_at b 0) 3) (h : Refusal) (e : h ≡ first_refusal (head_faults (head slots blowers wake) rations (eqb rations (line_count b - 1)))) where
+      form_passed : first_refusal (faults b) ≡ first_refusal values
+      form_passed = ap first_refusal faults_split ∙ first_right (length_faults b ++ form_faults b) values (numbered_form (sym (ap (λ r. r.number) f) ∙ z))
+
+      module _ {slots blowers wake rations : ℕ} (d : HeadRead b slots blowers wake rations) (h : Refusal)
+          (e : h ≡ first_refusal (head_faults (head slots blowers wake) rations (eqb rations (line_count b - 1)))) where
         same_head : head_faults (head slots blowers wake) rations (eqb rations (line_count b - 1)) ≡ head_faults (sheet_of b) announced (eqb announced (line_count b - 1))
         unfolding head_faults sheet_of
-        same_head = rw (s₀, s₁, s₂, s₃)
+        same_head = rw (d.slots_is, d.blowers_is, d.wake_is, d.rations_is)
 
         abbrev rest : List Refusal
         rest = jobs_faults (sheet_of b).slots 2 0 0 (sheet_of b).jobs
@@ -171,7 +152,7 @@ module _ (b : List ℕ) where
                 q ∙ ap (λ xs. first_refusal (jobs_faults slots 2 0 0 (jobs_of xs))) (ap (take (fields * n)) g ∙ take_padded (fields * max_rations) (numbers_to (job_at b) n) (fields * n) (length_numbers_to (job_at b) n))
                 ∙ ap (λ js. first_refusal (jobs_faults slots 2 0 0 js)) (jobs_of_numbers_of (map (job_at b) (range 1 n)))
                 ∙ ap (λ k. first_refusal (jobs_faults slots 2 0 0 (map (job_at b) (range 1 k)))) c
-                ∙ ap (λ k. first_refusal (jobs_faults k 2 0 0 (map (job_at b) (range 1 (line_count b - 1))))) s₀
+                ∙ ap (λ k. first_refusal (jobs_faults k 2 0 0 (map (job_at b) (range 1 (line_count b - 1))))) d.slots_is
 
             -- refused by 7 to 9 or 13
             pub jobs_refused : (r.number ≡ 0 → ⊥) → refused r ≡ reading_of b
@@ -182,7 +163,7 @@ module _ (b : List ℕ) where
                 → record { number = 0; line = 0; slots = slots; blowers = blowers; wake = wake; rations = rations; numbers = numbers } ≡ reading_of b
             unfolding accepted sheet_of
             read_accepted k =
-                (λ i. record { number = 0; line = 0; slots = s₀ i; blowers = s₁ i; wake = s₂ i; rations = count i; numbers = flat i })
+                (λ i. record { number = 0; line = 0; slots = d.slots_is i; blowers = d.blowers_is i; wake = d.wake_is i; rations = count i; numbers = flat i })
                 ∙ answer_accepted b (ap (λ x. x.number) (head_left ∙ sym same_jobs) ∙ k)
               where
                 count : rations ≡ length (sheet_of b).jobs

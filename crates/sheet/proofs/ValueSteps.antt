@@ -13,7 +13,6 @@ use Rattle.checks.specs.NumbersLaws.{length_jobs_of, numbers_of_jobs_of}
 use Rattle.checks.specs.FaultLaws.{numbered_value_faults}
 use Rattle.checks.specs.RangeLaws.{in_range_value_faults}
 use Rattle.sheet.proofs.OwnCheckLaws.{flat_agrees}
-use Rattle.checks.specs.Parts.{head}
 use Rattle.sheet.proofs.ReadSteps.{from_refused, from_accepted}
 use Rattle.common.specs.Buffers.{padded}
 use Rattle.common.specs.FillLaws.{FilledTo, filled_end}

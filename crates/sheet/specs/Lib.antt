@@ -1,5 +1,7 @@
 -- Definitions
 pub mod Calls
+pub mod Accepted
+pub mod FeedSheets
 -- The theorems a reader looks for
 -- Laws of the definitions
 pub mod OwnChecks

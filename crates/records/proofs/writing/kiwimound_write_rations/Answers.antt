@@ -1,15 +1,10 @@
 -- `records::writing::kiwimound_write_rations` meets its contract: it is that of the call, for what the records are read as.
 -- Assumes nothing.
 use Rattle.std.proofs.Common.{sym, subst}
-use Rattle.sheet.specs.OwnChecks.{SomeReading, ReadFrom}
+use Rattle.sheet.specs.OwnChecks.{ReadFrom}
 use Rattle.records.specs.Records.{record_sheet, record_faults}
-use Rattle.records.specs.ReadSteps.{records_read, some_records}
+use Rattle.records.specs.ReadSteps.{records_read}
 use Rattle.records.proofs.writing.kiwimound_write_rations.Goals as goal
-
-pub write_of-requires : goal.write_of-requires
-write_of-requires c =
-    let s = record_sheet c.args.slots c.args.blowers c.args.wake c.args.rations.now in
-    subst SomeReading (sym c.read_rations-reading.ensures) (some_records s)
 
 pub returns : goal.returns
 returns c =
