@@ -1,4 +1,4 @@
-// A word's bits: the lowest, one more, one less, whether it has one. What a bit is stands in common/specs/Bits.antt.
+// A word's bits: the lowest, one more, one less, one moved to another word, whether it has one. What a bit is stands in common/specs/Bits.antt.
 #![tactic(auto)]
 
 ghost use Rattle.std.specs.Prelude.{◌≡◌, ◌≢◌, ◌+◌, ◌-◌, ◌^◌, ◌<◌, eqb};
@@ -10,7 +10,7 @@ pub fn lowest(w: u64) -> u32
     requires { w ≢ 0 }
     ensures { Lowest w result }
 {
-    u64::trailing_zeros(w)
+    w.trailing_zeros()
 }
 
 // w with the bit j set.
@@ -27,6 +27,15 @@ pub fn drop_bit(w: u64, j: u32) -> u64
     ensures { result ≡ w - 2 ^ j }
 {
     w - (1u64 << j)
+}
+
+// Moves the bit j from one word to the other.
+pub fn move_bit(from: &mut u64, to: &mut u64, j: u32)
+    requires { (j < 64) × (bit from.old j ≡ 1) × (bit to.old j ≡ 0) }
+    ensures { (from.new ≡ from.old - 2 ^ j) × (to.new ≡ to.old + 2 ^ j) }
+{
+    *from = drop_bit(*from, j);
+    *to = add_bit(*to, j);
 }
 
 // Whether w has the bit j.

@@ -106,6 +106,10 @@ pub data Looked (F R H S O : List ℕ) (w n y : ℕ) : List ℕ → List ℕ →
       Looked F R H S O w n y (set S y 1) (set O y (n + 1)) (bit_or w (at F y)) (n + 1) slots
   find : Touched R S w y → load F y < at H y → Looked F R H S O w n y (set S y 1) (set O y (n + 1)) w (n + 1) y
 
+-- it found the slot e
+abbrev pub LookedTo : (F R H S O : List ℕ) (w n y : ℕ) (S' O' : List ℕ) (e : ℕ) → Type 0
+LookedTo F R H S O w n y S' O' e = (e < slots) × Looked F R H S O w n y S' O' w (n + 1) e
+
 -- any number of full slots are marked, one after another
 pub data Spread (F R H S O : List ℕ) (w n : ℕ) : List ℕ → List ℕ → ℕ → ℕ → Type 0 where
   none : Spread F R H S O w n S O w n
@@ -130,6 +134,10 @@ pub data Swept (F R H S O : List ℕ) (w n : ℕ) : List ℕ → List ℕ → �
       Spread F R H S O w n S' O' w' n' →
       (n' ≡ n → (z : ℕ) → z < slots → at S' z ≡ 0 → bit_and w' (at R z) ≡ 0) →
       Swept F R H S O w n S' O' w' n' slots
+
+-- it found the slot e
+abbrev pub SweptTo : (F R H S O : List ℕ) (w n : ℕ) (S' O' : List ℕ) (e : ℕ) → Type 0
+SweptTo F R H S O w n S' O' e = (e < slots) × ((w' : ℕ) × (n' : ℕ) × Swept F R H S O w n S' O' w' n' e)
 
 -- ---- `spread`
 

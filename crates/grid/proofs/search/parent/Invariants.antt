@@ -1,11 +1,6 @@
 -- `grid::search::parent` meets its contract. The loop has passed no parent of e, and there is one. Assumes nothing.
-use Prim.Native.Nat.{◌-◌}
-use Rattle.grid.specs.Grid.{slots}
 use Rattle.grid.specs.CarryLaws.{Seeking}
 use Rattle.grid.proofs.search.parent.Given as goal
 
 abbrev pub invariant-loop-p : goal.invariant-loop-p
 invariant-loop-p l = Seeking l.fed l.rest l.order l.e l.p
-
-abbrev pub decreases-loop-p : goal.decreases-loop-p
-decreases-loop-p l = slots - l.p

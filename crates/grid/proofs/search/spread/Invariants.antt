@@ -5,8 +5,8 @@ use Rattle.grid.specs.Grid.{slots}
 use Rattle.grid.specs.Search.{Spread}
 use Rattle.grid.proofs.search.spread.Given as goal
 
-abbrev pub invariant-loop-front : goal.invariant-loop-front
-invariant-loop-front l = Spread l.fed l.rest l.high l.initial.seen l.initial.order l.initial.word l.initial.number l.seen l.order l.word l.number
+abbrev pub invariant-loop-end : goal.invariant-loop-end
+invariant-loop-end l = Spread l.fed l.rest l.high l.initial.seen l.initial.order l.initial.front.reached l.initial.front.last l.seen l.order l.front.reached l.front.last
 
-abbrev pub decreases-loop-front : goal.decreases-loop-front
-decreases-loop-front l = slots - l.number
+abbrev pub decreases-loop-end : goal.decreases-loop-end
+decreases-loop-end l = slots - l.front.last
