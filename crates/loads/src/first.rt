@@ -22,21 +22,10 @@ fn feed_slot(
     requires { CanFeed fed.old rest.old j t }
     ensures { FedSlot j high left result fed.old rest.old fed.new rest.new t }
 {
-    if left == 0 {
+    if left == 0 || !bits::has_bit(rest[t], j) || !search::has_room(fed[t], high) {
         return left;
     }
-    let r = rest[t];
-    if !bits::has_bit(r, j) {
-        return left;
-    }
-    let f = fed[t];
-    if !search::has_room(f, high) {
-        return left;
-    }
-    let a = bits::add_bit(f, j);
-    let b = bits::drop_bit(r, j);
-    fed[t] = a;
-    rest[t] = b;
+    bits::move_bit(&mut rest[t], &mut fed[t], j);
     left - 1
 }
 
@@ -73,8 +62,7 @@ fn feed_ration(
     ensures { Fed j more fed.old rest.old fed.new rest.new }
 {
     let left = feed_pass(fed, rest, high, j, more);
-    let any = [BEYOND; SLOTS];
-    feed_pass(fed, rest, &any, j, left);
+    feed_pass(fed, rest, &[BEYOND; SLOTS], j, left);
 }
 
 // Brings ration j from its old volume to a new one. Where that is smaller, it rests in so many slots more, which is to
@@ -126,9 +114,7 @@ pub fn place_first(
     requires { CanStart windows.now volumes.now high.now }
     ensures { Started windows.now volumes.now fed.new rest.new }
 {
-    let all = *windows;
     *fed = [0; SLOTS];
-    *rest = all;
-    let none = [0u8; RATIONS];
-    place_again(fed, rest, high, &none, volumes);
+    *rest = *windows;
+    place_again(fed, rest, high, &[0; RATIONS], volumes);
 }

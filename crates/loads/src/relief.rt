@@ -1,5 +1,8 @@
 // Bringing loads down to the highs, by searches. A search that fails leaves the slots it reached marked: no later
 // search looks at them again, and at the end they show why no placing of these rations keeps within the highs.
+//
+// The words stay parameters side by side and make no struct: a question on a low goes to the exchanged words, `rest` for
+// `fed` and `spare` for `high`, for which a struct would be taken apart and put together in the other order.
 ghost use Rattle.std.specs.Prelude.{◌≡◌, ◌+◌, ◌-◌, ◌≤◌, ◌<◌, ltb};
 ghost use Rattle.std.specs.Int.Count.{ones};
 ghost use Rattle.loads.specs.Relief.{CanUnload, Unloaded, CanRelieve, Relieved, CanLower, Lowered, Raised, OverMarked, ExcessMarked, Widths};
@@ -10,7 +13,7 @@ use grid::{SLOTS, search};
 fn is_over(word: u64, high: u8) -> bool
     ensures { result ≡ ltb high (ones word) }
 {
-    (high as u32) < u64::count_ones(word)
+    (high as u32) < word.count_ones()
 }
 
 // Takes feedings out of slot t, one search for each, until it holds no more than its high or a search fails.
@@ -53,8 +56,7 @@ pub fn relieve(
     *seen = [0; SLOTS];
     let mut within = true;
     for t in 0..SLOTS {
-        let done = unload(fed, rest, high, seen, t);
-        within = within & done;
+        within &= unload(fed, rest, high, seen, t);
     }
     within
 }
@@ -87,7 +89,7 @@ pub fn lower(
 pub fn width(fed: u64, rest: u64) -> u32
     ensures { (result ≡ ones fed + ones rest) × (result ≤ 128) }
 {
-    u64::count_ones(fed) + u64::count_ones(rest)
+    fed.count_ones() + rest.count_ones()
 }
 
 // Raises the low of slot t to k, where `spare` has for each slot how many of the rations with the slot in their windows
@@ -106,12 +108,10 @@ pub fn raise(
     ensures { Raised result fed.old rest.old spare.old
         fed.new rest.new spare.new seen.new t k }
 {
-    let all = width(fed[t], rest[t]);
-    if all < k as u32 {
+    let Some(h) = width(fed[t], rest[t]).checked_sub(k as u32) else {
         return false;
-    }
-    let h = (all - k as u32) as u8;
-    lower(rest, fed, spare, seen, t, h)
+    };
+    lower(rest, fed, spare, seen, t, h as u8)
 }
 
 // Marks the slots that show why slot t can't have the high h: those reached from it, as `lower` leaves them. Where it
@@ -141,11 +141,7 @@ fn spare_for(all: u32, k: u8) -> u8
     requires { all ≤ 128 }
     ensures { result ≡ all - k }
 {
-    let low = k as u32;
-    if all <= low {
-        return 0;
-    }
-    (all - low) as u8
+    all.saturating_sub(k as u32) as u8
 }
 
 // Marks the slots that show why slot t can't have the low k: `mark_over` on the exchanged words. Where fewer than k
@@ -163,8 +159,7 @@ pub fn mark_excess(
     ensures { ExcessMarked fed.old rest.old spare.old
         fed.new rest.new spare.new seen.new t k }
 {
-    let all = width(fed[t], rest[t]);
-    let h = spare_for(all, k);
+    let h = spare_for(width(fed[t], rest[t]), k);
     mark_over(rest, fed, spare, seen, t, h);
 }
 
@@ -174,7 +169,6 @@ pub fn widths(fed: &[u64; SLOTS], rest: &[u64; SLOTS], spare: &mut [u8; SLOTS])
     ensures { Widths fed.now rest.now spare.new }
 {
     for t in 0..SLOTS {
-        let all = width(fed[t], rest[t]);
-        spare[t] = all as u8;
+        spare[t] = width(fed[t], rest[t]) as u8;
     }
 }

@@ -7,11 +7,11 @@ use Rattle.loads.proofs.relief.relieve.Goals as goal
 pub loop-t-init : goal.loop-t-init
 loop-t-init c = relieving_start c.requires
 
-pub unload-done-requires : goal.unload-done-requires
-unload-done-requires c = relieving_unload c.requires c.loop-t.invariant (omega (arith, c.loop-t-test.true))
+pub unload-within-requires : goal.unload-within-requires
+unload-within-requires c = relieving_unload c.requires c.loop-t.invariant (omega (arith, c.loop-t-test.true))
 
 pub loop-t-preserved : goal.loop-t-preserved
-loop-t-preserved c = relieving_next c.requires c.loop-t.invariant (omega (arith, c.loop-t-test.true)) c.unload-done.ensures
+loop-t-preserved c = relieving_next c.requires c.loop-t.invariant (omega (arith, c.loop-t-test.true)) c.unload-within.ensures
 
 pub returns : goal.returns
 returns c = relieved c.requires c.loop-t.invariant (omega (arith, c.loop-t-test.false))

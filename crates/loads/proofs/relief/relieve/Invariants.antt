@@ -1,11 +1,6 @@
 -- `loads::relief::relieve` meets its contract. The loop keeps what `Relieving` says of the slots passed. Assumes nothing.
-use Prim.Native.Nat.{◌-◌}
-use Rattle.grid.specs.Grid.{slots}
 use Rattle.loads.specs.RelieveLaws.{Relieving}
 use Rattle.loads.proofs.relief.relieve.Given as goal
 
 abbrev pub invariant-loop-t : goal.invariant-loop-t
 invariant-loop-t l = Relieving l.within l.initial.fed l.initial.rest l.high l.fed l.rest l.seen l.t
-
-abbrev pub decreases-loop-t : goal.decreases-loop-t
-decreases-loop-t l = slots - l.t

@@ -8,7 +8,7 @@ pub loop-t-init : goal.loop-t-init
 loop-t-init c = widening_start c.requires.grid c.requires.highs
 
 pub loop-t-preserved : goal.loop-t-preserved
-loop-t-preserved c = widening_next c.requires.grid c.loop-t.invariant (omega (arith, c.loop-t-test.true)) c.width-all.ensures.0
+loop-t-preserved c = widening_next c.requires.grid c.loop-t.invariant (omega (arith, c.loop-t-test.true)) c.width.ensures.0
 
 pub returns : goal.returns
 returns c = widths_of c.requires.grid c.loop-t.invariant (omega (arith, c.loop-t-test.false))

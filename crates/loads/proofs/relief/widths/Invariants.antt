@@ -1,11 +1,6 @@
 -- `loads::relief::widths` meets its contract. Assumes nothing.
-use Prim.Native.Nat.{◌-◌}
-use Rattle.grid.specs.Grid.{slots}
 use Rattle.loads.specs.ExchangeLaws.{Widening}
 use Rattle.loads.proofs.relief.widths.Given as goal
 
 abbrev pub invariant-loop-t : goal.invariant-loop-t
 invariant-loop-t l = Widening l.fed l.rest l.spare l.t
-
-abbrev pub decreases-loop-t : goal.decreases-loop-t
-decreases-loop-t l = slots - l.t
