@@ -1,6 +1,6 @@
 -- The lines of a tank: tanks never fall from line to line, so that its lines follow each other. Assumes nothing.
-use Rattle.std.specs.Prelude.{◌≡◌, refl, Bool, true, false, cond, List, [], ◌++◌, map, ℕ, zero, suc, ◌+◌, ◌-◌, ◌*◌, ◌≤◌, ◌<◌, eqb, length, take, drop}
-use Rattle.std.proofs.Common.{sym, ap, ◌∙◌, arith, length-drop, take-add, drop-drop, length-take-le, eqb-true, ne_eqb}
+use Rattle.std.specs.Prelude.{◌≡◌, refl, Bool, true, false, cond, List, [], ◌++◌, map, ℕ, zero, suc, ◌+◌, ◌-◌, ◌*◌, ◌≤◌, ◌<◌, eqb, ltb, length, take, drop}
+use Rattle.std.proofs.Common.{sym, ap, ◌∙◌, arith, length-drop, take-add, drop-drop, length-take-le, eqb-true, ne_eqb, ltb-true, ltb-false}
 use Rattle.std.proofs.lemmas.Bool.{eqb-false}
 use Rattle.common.specs.Lists.{range, part}
 use Rattle.common.specs.ListLaws.{part_none}
@@ -129,6 +129,35 @@ first_line_first b tank i (suc n) = go (eqb (tank_at b i) tank) refl (first_line
           none = λ k p q. from_first (λ m. tank_at b m ≡ tank → ⊥) i k p (eqb-false (tank_at b i) tank e) (λ l. r.none k l q);
           has = λ l. r.has (omega arith);
         }
+
+-- there is one such line alone
+pub first_same : (b : List ℕ) (tank i n r : ℕ) → First b tank i n r → r ≡ first_line b tank i n
+first_same b tank i n r f = go (ltb r s) (ltb s r) refl refl
+  where
+    s : ℕ
+    s = first_line b tank i n
+
+    g : First b tank i n s
+    g = first_line_first b tank i n
+
+    go : (t u : Bool) → ltb r s ≡ t → ltb s r ≡ u → r ≡ s
+    go true u d e = let l = ltb-true r s d in absurd (g.none r f.from l (f.has (omega (arith, g.to))))
+    go false true d e = let l = ltb-true s r e in absurd (f.none s g.from l (g.has (omega (arith, f.to))))
+    go false false d e = omega (arith, ltb-false r s d, ltb-false s r e)
+
+pub after_same : (b : List ℕ) (tank i n r : ℕ) → After b tank i n r → r ≡ line_after b tank i n
+after_same b tank i n r f = go (ltb r s) (ltb s r) refl refl
+  where
+    s : ℕ
+    s = line_after b tank i n
+
+    g : After b tank i n s
+    g = line_after_after b tank i n
+
+    go : (t u : Bool) → ltb r s ≡ t → ltb s r ≡ u → r ≡ s
+    go true u d e = let l = ltb-true r s d in absurd (f.stops (omega (arith, g.to)) (g.all r f.from l))
+    go false true d e = let l = ltb-true s r e in absurd (g.stops (omega (arith, f.to)) (f.all s g.from l))
+    go false false d e = omega (arith, ltb-false r s d, ltb-false s r e)
 
 -- from a line of the tank on, its lines are those up to the first that is not of it
 tank_lines_run : (b : List ℕ) (tank i n : ℕ) → NeverFall b i n → (0 < n → tank ≤ tank_at b i)

@@ -1,81 +1,73 @@
 -- The steps of a look-up: the search for a tank's first line and for the first line after it that is not of the tank, and the part between them. Assumes nothing.
-use Rattle.std.specs.Prelude.{◌≡◌, Bool, true, false, List, [], ◌∷◌, ltb, eqb}
+use Rattle.std.specs.Prelude.{◌≡◌, Bool, true, false, List, [], ◌∷◌, ltb, eqb, take, drop, Option, Some, None, unwrap_or}
+use Rattle.std.specs.Option.{MatchOption}
 use Rattle.std.proofs.Math.Path.{refl, sym, ap}
-use Rattle.std.proofs.Common.{subst₂, ◌∙◌, add-one, eq-eqb, ne_eqb, eqb-true, ltb-true, ltb-false}
+use Rattle.std.proofs.Common.{subst₂, ◌∙◌, ne_eqb, eqb-true, ltb-true, ltb-false}
 use Rattle.std.proofs.Math.Bool.{cond}
-use Prim.Native.Nat.{ℕ, zero, suc, ◌+◌, ◌-◌, ◌*◌, ◌≤◌, ◌<◌}
+use Prim.Native.Nat.{ℕ, ◌+◌, ◌-◌, ◌*◌, ◌≤◌, ◌<◌}
 use native.Mathlib.Omega.{arith}
 use Rattle.std.proofs.Math.ListN.{length}
 use Rattle.std.proofs.lemmas.Bool.{eqb-false}
 use Rattle.common.specs.Lists.{part}
-use Rattle.line.specs.Layout.{line_bytes}
-use Rattle.line.specs.Line.{value_at}
-use Rattle.checks.specs.Sheet.{line_count, line_at, sheet_of}
+use Rattle.line.specs.Layout.{width, line_bytes}
+use Rattle.line.specs.Field.{parse, number_of}
+use Rattle.checks.specs.Sheet.{line_count, sheet_of}
 use Rattle.checks.specs.Checks.{first_refusal, faults}
 use Rattle.sheet.specs.Calls.{accepted, reading_of}
 use Rattle.lookup.specs.LookUp.{look_up, first_line, place_of, byte_from}
-use Rattle.lookup.specs.Parts.{line_after}
+use Rattle.lookup.specs.Parts.{line_after, nowhere}
 use Rattle.lookup.specs.declared.Part.{Part}
 use Rattle.sheet.specs.declared.Reading.{Reading}
+use Rattle.sheet.proofs.LineSteps.{value_place}
 use Rattle.sheet.proofs.CallLaws.{reading_of_accepted, faults_reading_of}
-use Rattle.lookup.proofs.LookUpLaws.{look_up_accepted, look_up_refused}
+use Rattle.lookup.proofs.LookUpLaws.{look_up_accepted, look_up_refused, look_up_none}
 use Rattle.checks.specs.WellFormedLaws.{well_formed_faults}
-use Rattle.lookup.proofs.FindLaws.{tank_at, tanks_never_fall, AllHave, NoneHas, first_line_first, line_after_after, tank_lines_part, length_part}
+use Rattle.lookup.proofs.FindLaws.{tank_at, tanks_never_fall, AllHave, NoneHas, First, first_line_first, first_same, After, line_after_after, after_same, tank_lines_none, tank_lines_part, length_part}
 use Rattle.checks.specs.FaultLaws.{numbered_faults}
 
 -- The two searches --------------------------------------------------------------------
 
-module _ (b : List ℕ) (tank i lines : ℕ) where
-  pub first_end : lines ≤ i → i ≡ first_line b tank i (lines - i)
-  unfolding first_line
-  first_end h = sym (ap (first_line b tank i) none)
-    where
-      none : lines - i ≡ zero
-      none = omega arith
+-- the number in the first field of line k
+abbrev pub tank_on : List ℕ → ℕ → ℕ
+tank_on b k = number_of (parse (take width (drop (line_bytes * k) b)))
 
-  pub after_end : lines ≤ i → i ≡ line_after b tank i (lines - i)
-  unfolding line_after
-  after_end h = sym (ap (line_after b tank i) none)
-    where
-      none : lines - i ≡ zero
-      none = omega arith
+module _ (b : List ℕ) (tank n : ℕ) (whole : line_bytes * n ≤ length b) where
+  on_at : (k : ℕ) → k < n → tank_on b k ≡ tank_at b k
+  on_at k h = value_place b k (omega arith) 0 (line_bytes * k) (omega arith) (omega arith)
 
-  module _ (h : i < lines) where
-    count : lines - i ≡ suc (lines - (i + 1))
-    count = omega arith
+  pub first_missing : ((k : ℕ) → 1 ≤ k → k < n → tank_on b k ≡ tank → ⊥) → NoneHas b tank 1 n
+  first_missing h k p q t = h k p q (on_at k q ∙ t)
 
-    first_next : first_line b tank i (lines - i) ≡ cond (eqb (value_at (line_at b i) 0) tank) i (first_line b tank (i + 1) (lines - (i + 1)))
-    unfolding first_line
-    first_next =
-        ap (first_line b tank i) count ∙ ap (λ k. cond (eqb (value_at (line_at b i) 0) tank) i (first_line b tank k (lines - (i + 1)))) (sym (add-one i))
+  pub first_found : (f : ℕ) → (1 ≤ f) × (f < n) × (tank_on b f ≡ tank) × ((k : ℕ) → 1 ≤ k → k < f → tank_on b k ≡ tank → ⊥) → First b tank 1 (n - 1) f
+  first_found f h =
+      record {
+        from = h.0;
+        to = omega (arith, h.1);
+        none = λ k p q t. h.3 k p q (on_at k (omega (arith, h.1)) ∙ t);
+        has = λ l. sym (on_at f h.1) ∙ h.2;
+      }
 
-    after_next : line_after b tank i (lines - i) ≡ cond (eqb (value_at (line_at b i) 0) tank) (line_after b tank (i + 1) (lines - (i + 1))) i
-    unfolding line_after
-    after_next =
-        ap (line_after b tank i) count ∙ ap (λ k. cond (eqb (value_at (line_at b i) 0) tank) (line_after b tank k (lines - (i + 1))) i) (sym (add-one i))
-
-    module _ (e : value_at (line_at b i) 0 ≡ tank) where
-      pub first_hit : i ≡ first_line b tank i (lines - i)
-      first_hit = sym (first_next ∙ rw (eq-eqb (value_at (line_at b i) 0) tank e))
-
-      pub after_miss : line_after b tank i (lines - i) ≡ line_after b tank (i + 1) (lines - (i + 1))
-      after_miss = after_next ∙ rw (eq-eqb (value_at (line_at b i) 0) tank e)
-
-    module _ (n : value_at (line_at b i) 0 ≡ tank → ⊥) where
-      pub first_miss : first_line b tank i (lines - i) ≡ first_line b tank (i + 1) (lines - (i + 1))
-      first_miss = first_next ∙ rw (ne_eqb (value_at (line_at b i) 0) tank n)
-
-      pub after_hit : i ≡ line_after b tank i (lines - i)
-      after_hit = sym (after_next ∙ rw (ne_eqb (value_at (line_at b i) 0) tank n))
+  pub after_found : (f : ℕ) → f ≤ n → (r : Option ℕ)
+      → MatchOption r ((k : ℕ) → f ≤ k → k < n → tank_on b k ≡ tank) (λ a. (f ≤ a) × (a < n) × (tank_on b a ≡ tank → ⊥) × ((k : ℕ) → f ≤ k → k < a → tank_on b k ≡ tank))
+      → After b tank f (n - f) (unwrap_or r n)
+  after_found f l None h =
+      record { from = l; to = omega arith; all = λ k p q. sym (on_at k q) ∙ h k p q; stops = λ m t. absurd (omega arith) }
+  after_found f l (Some a) h =
+      record {
+        from = h.0;
+        to = omega (arith, h.1);
+        all = λ k p q. sym (on_at k (omega (arith, h.1))) ∙ h.3 k p q;
+        stops = λ m t. h.2 (on_at a h.1 ∙ t);
+      }
 
 -- The part between them -----------------------------------------------------------------
-
-abbrev pub nowhere : Part
-nowhere = record { start = 0; length = 0 }
 
 pub nowhere_empty : (b : List ℕ) (tank : ℕ) → look_up b tank ≡ [] → nowhere ≡ place_of b tank
 unfolding place_of
 nowhere_empty b tank e = sym (rw e)
+
+pub place_missing : (b : List ℕ) (tank : ℕ) → NoneHas b tank 1 (line_count b) → nowhere ≡ place_of b tank
+place_missing b tank n = nowhere_empty b tank (look_up_none b tank (tank_lines_none b tank 1 (line_count b - 1) (λ k p q t. n k p (omega arith) t)))
 
 pub place_unread : (b : List ℕ) (tank : ℕ) → ((reading_of b).number ≡ 0 → ⊥) → nowhere ≡ place_of b tank
 unfolding accepted
@@ -147,6 +139,20 @@ module _ (b : List ℕ) (tank : ℕ) (e : faults b ≡ []) where
         let n : length (look_up b tank) ≡ 0 → ⊥ = λ z. h (omega (arith, size)) in
         let l : line_bytes * (a - f) ≡ length (look_up b tank) = omega (arith, size) in
         (λ i. record { start = line_bytes * p i; length = l i }) ∙ sym (rw (ne_eqb (length (look_up b tank)) 0 n))
+
+  -- .. of the two lines that are found
+  module _ (f a : ℕ) (p : First b tank 1 (line_count b - 1) f) (h : f < line_count b) (q : After b tank f (line_count b - f) a) where
+    pub found : Between b tank f a
+    found = between f a (first_same b tank 1 (line_count b - 1) f p) (after_same b tank f (line_count b - f) a q)
+
+    pub place_found : record { start = line_bytes * f; length = line_bytes * (a - f) } ≡ place_of b tank
+    place_found =
+        place_some
+        f
+        a
+        (first_same b tank 1 (line_count b - 1) f p)
+        (after_same b tank f (line_count b - f) a q)
+        (λ e. q.stops (omega (arith, e)) (ap (tank_at b) e ∙ p.has (omega arith)))
 
   -- the lines of a tank, by the place that is answered
   pub place_lines : part (place_of b tank).start ((place_of b tank).start + (place_of b tank).length) b ≡ look_up b tank

@@ -10,7 +10,7 @@ pub use finder::{find, place};
 
 // Where a part of a sheet is: its first byte and its length.
 #[repr(C)]
-#[derive(Clone, Copy)]
+#[derive(Clone, Copy, Default)]
 pub struct Part {
     pub start: usize,
     pub length: usize,
