@@ -1,7 +1,6 @@
 -- How the answer of the call that lists causes follows from what it read, found and wrote. Assumes nothing.
-use Rattle.std.specs.Prelude.{◌≡◌, refl, Bool, true, false, not, List, ℕ, ◌≤◌, ◌<◌, length, replicate}
-use Rattle.std.proofs.Common.{sym, ◌∙◌, subst, arith, lt-ltb, le-ltb, ne_eqb}
-use Rattle.std.proofs.lemmas.Bool.{not-false}
+use Rattle.std.specs.Prelude.{◌≡◌, refl, Bool, true, false, not, Option, Some, None, List, ℕ, ◌≤◌, ◌<◌, length, replicate}
+use Rattle.std.proofs.Common.{sym, ap, subst, arith, lt-ltb, le-ltb, ne_eqb}
 use Rattle.checks.specs.declared.Refusal.{Refusal}
 use Rattle.sheet.specs.declared.Reading.{Reading}
 use Rattle.checks.specs.Refusals.{short_buffer, no_placing}
@@ -12,8 +11,8 @@ use Rattle.schedules.specs.Demands.{no_low}
 use Rattle.placing.specs.Rations.{demands_from}
 use Rattle.method.specs.Endings.{EndedStretch}
 use Rattle.plan_lines.specs.Sizes.{causes_bytes}
+use Rattle.cause_lines.specs.declared.Extent.{Extent}
 use Rattle.cause_lines.specs.EntryCalls.{Listing}
-use Rattle.endings.specs.declared.DayListed.{DayListed}
 use Rattle.endings.specs.DayCauses.{DayCauses}
 use Rattle.planning.specs.Problem.{alone, left, room, can_be_planned}
 use Rattle.planning.specs.Planning.{plan_refusal_for}
@@ -66,25 +65,26 @@ module _ {own : List Refusal} {s : Sheet} {r : Reading} (h : ReadFrom own s r) (
     pub causes_short : short ≡ true → (old : List ℕ) → Answered (plan_refusal_for own s short) es old old (record { number = short_buffer; line = 0; length = 0; cut = false })
     causes_short l old = refused (by_short h (alone s) short z l) (λ i. omega arith) es old
 
-    module _ (l : short ≡ false) {d : DayListed} {old new : List ℕ}
-        (k : DayCauses d r.slots r.blowers (demands_from r.slots r.rations r.numbers) (replicate r.slots r.blowers) old new) where
-      day : DayCauses d s.slots s.blowers (left (alone s)) (room (alone s)) old new
-      day = read_alone h z (λ slots m ds high. DayCauses d slots m ds high old new) k
+    outcome : short ≡ false → (x : Bool) → can_be_planned (alone s) ≡ x → record { number = NumberOf (not x); line = 0 } ≡ plan_refusal_for own s short
+    outcome l x e = by_outcome h (alone s) short z l (not x) (sym (ap not e))
 
-      held_is : d.held ≡ not (can_be_planned (alone s))
+    module _ (l : short ≡ false) (old new : List ℕ) where
+      day : (d : Option Extent) → DayCauses d r.slots r.blowers (demands_from r.slots r.rations r.numbers) (replicate r.slots r.blowers) old new
+          → DayCauses d s.slots s.blowers (left (alone s)) (room (alone s)) old new
+      day d = read_alone h z (λ slots m ds high. DayCauses d slots m ds high old new)
+
+      pub causes_held : DayCauses None r.slots r.blowers (demands_from r.slots r.rations r.numbers) (replicate r.slots r.blowers) old new
+          → Answered (plan_refusal_for own s short) es old new (record { number = no_placing; line = 0; length = 0; cut = false })
       unfolding can_be_planned no_low
-      held_is = day.held
+      causes_held k =
+          let d = day None k in
+          subst (λ x. Answered (plan_refusal_for own s short) es old x (record { number = no_placing; line = 0; length = 0; cut = false })) (sym d.1)
+          (refused (outcome l false d.0) (λ i. omega arith) es old)
 
-      outcome : (x : Bool) → d.held ≡ x → record { number = NumberOf x; line = 0 } ≡ plan_refusal_for own s short
-      outcome x e = by_outcome h (alone s) short z l x (sym e ∙ held_is)
-
-      pub causes_held : d.held ≡ true → Answered (plan_refusal_for own s short) es old new (record { number = no_placing; line = 0; length = 0; cut = false })
-      causes_held e =
-          subst (λ x. Answered (plan_refusal_for own s short) es old x (record { number = no_placing; line = 0; length = 0; cut = false })) (sym (day.kept e))
-          (refused (outcome true e) (λ i. omega arith) es old)
-
-      pub causes_day : d.held ≡ false → Answered (plan_refusal_for own s short) es old new (record { number = 0; line = 0; length = d.length; cut = d.cut })
-      causes_day e =
-          listed (outcome false e)
-          (subst (λ vs. Listing vs old new (record { length = d.length; cut = d.cut }))
-          (sym (endings_whole (alone s) (alone_in_range s (read_values h z)) refl (not-false (can_be_planned (alone s)) (sym held_is ∙ e)))) (day.listed e))
+      pub causes_day : (x : Extent) → DayCauses (Some x) r.slots r.blowers (demands_from r.slots r.rations r.numbers) (replicate r.slots r.blowers) old new
+          → Answered (plan_refusal_for own s short) es old new (record { number = 0; line = 0; length = x.length; cut = x.cut })
+      unfolding can_be_planned no_low
+      causes_day x k =
+          let d = day (Some x) k in
+          listed (outcome l true d.0)
+          (subst (λ vs. Listing vs old new x) (sym (endings_whole (alone s) (alone_in_range s (read_values h z)) refl d.0)) d.1)

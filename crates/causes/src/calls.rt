@@ -36,20 +36,19 @@ pub fn list_causes(b: &[u8], out: &mut [u8]) -> CausesAnswer
         return refuse(SHORT_BUFFER, 0);
     }
     let numbers = sheet.numbers;
-    let day = endings::list_day(
+    let Some(extent) = endings::list_day(
         sheet.slots as usize,
         sheet.blowers as u8,
         sheet.rations as usize,
         &numbers,
         out,
-    );
-    if day.held {
+    ) else {
         return refuse(NO_PLACING, 0);
-    }
+    };
     CausesAnswer {
         number: 0,
         line: 0,
-        length: day.length,
-        cut: day.cut,
+        length: extent.length,
+        cut: extent.cut,
     }
 }

@@ -1,7 +1,8 @@
 -- What the comparison knows of two sheets that it read and of their days, and how that makes its answer. Assumes
 -- nothing.
 use mathlib.Core.Path.{◌≡◌, refl, sym, ap, ap₂, ◌∙◌}
-use mathlib.Core.Bool.{Bool, true, false, not}
+use mathlib.Core.Bool.{true, false, not}
+use Rattle.std.specs.Prelude.{Result, Ok, Err}
 use mathlib.Core.List.{List, [], ◌∷◌, ◌++◌, map}
 use Prim.Native.Nat.{ℕ, ◌*◌, ◌≤◌, ◌<◌}
 use native.Mathlib.Omega.{arith}
@@ -19,7 +20,8 @@ use Rattle.checks.specs.Checks.{fault, first_refusal, faults}
 use Rattle.sheet.specs.declared.Reading.{Reading}
 use Rattle.sheet.specs.Calls.{reading_of, accepted}
 use Rattle.sheet.proofs.OwnCheckLaws.{bytes_read, refused_before, accepted_before}
-use Rattle.stretches.specs.declared.Day.{Day}
+use Rattle.stretches.specs.declared.DayPlan.{DayPlan}
+use Rattle.stretches.specs.declared.HeldDay.{HeldDay}
 use Rattle.plan_lines.specs.Inputs.{tank_at}
 use Rattle.plan_lines.specs.SetBits.{set_bits_past}
 use Rattle.plan_order.specs.declared.Order.TheVariants.{No}
@@ -31,15 +33,15 @@ use Rattle.planning.specs.Planning.{held_faults}
 use Rattle.planning.specs.Clauses.{DayOf}
 use Rattle.planning.proofs.ListLaws.{map_range_cong}
 use Rattle.planning.proofs.InputLaws.{placing_of_holds, tanks_of_numbers_of}
-use Rattle.planning.proofs.DayLaws.{day_slots, holds, fed_long}
+use Rattle.planning.proofs.DayLaws.{day_slots, holds, plan_fed_long}
 use Rattle.comparison.specs.Comparison.{compare_refusal, order_of, compared_of}
 
 -- ---- two days
 
 -- the words of a planned day have the tanks of its plan
-day_tanks : {p : Problem} {r : Reading} {d : Day} → DayOf p r d → d.held ≡ false → tanks_of_words r.slots r.numbers d.fed ≡ fed_tanks (plan_for p)
+day_tanks : {p : Problem} {r : Reading} {d : DayPlan} → DayOf p r (Ok d) → tanks_of_words r.slots r.numbers d.fed ≡ fed_tanks (plan_for p)
 unfolding accepted plan_with
-day_tanks {p} {r} {d} h e =
+day_tanks {p} {r} {d} h =
     ap (λ x. tanks_of_words x.slots x.numbers d.fed) h.read
     ∙ map_range_cong 0 s.slots (λ t a b. sym (in_slot_lem t (omega (arith, b))))
   where
@@ -53,46 +55,46 @@ day_tanks {p} {r} {d} h e =
     numbers = padded (fields * max_rations) (numbers_of s.jobs)
 
     there : s.slots ≤ length d.fed
-    there = omega (arith, fed_long h, h.in_range.values.head.slots.le)
+    there = omega (arith, plan_fed_long h, h.in_range.values.head.slots.le)
 
     in_slot_lem : (t : ℕ) → t < s.slots → tanks_in (plan_for p) t ≡ tanks_of_word numbers (get_or d.fed t 0)
     in_slot_lem t l =
-        tanks_in_word (plan_for p) n numbers d.fed (sym (tanks_of_numbers_of (fields * max_rations) s.jobs)) (sym (placing_of_holds s.slots n d.fed (feedings_of p) there (holds h e))) there t l
-        ∙ ap (map (tank_at numbers)) (sym (set_bits_past 0 n max_rations (get_or d.fed t 0) ((holds h e).few t l) h.in_range.values.head.rations))
+        tanks_in_word (plan_for p) n numbers d.fed (sym (tanks_of_numbers_of (fields * max_rations) s.jobs)) (sym (placing_of_holds s.slots n d.fed (feedings_of p) there (holds h))) there t l
+        ∙ ap (map (tank_at numbers)) (sym (set_bits_past 0 n max_rations (get_or d.fed t 0) ((holds h).few t l) h.in_range.values.head.rations))
 
-slots_of_lem : {p : Problem} {r : Reading} {d : Day} → DayOf p r d → r.slots ≡ (plan_for p).slots
+slots_of_lem : {p : Problem} {r : Reading} {d : Result DayPlan HeldDay} → DayOf p r d → r.slots ≡ (plan_for p).slots
 unfolding accepted plan_with
 slots_of_lem h = ap (λ y. y.slots) h.read
 
-numbers_long : {p : Problem} {r : Reading} {d : Day} → DayOf p r d → length r.numbers ≡ fields * max_rations
+numbers_long : {p : Problem} {r : Reading} {d : Result DayPlan HeldDay} → DayOf p r d → length r.numbers ≡ fields * max_rations
 unfolding accepted
 numbers_long {p} h =
     ap (λ y. length y.numbers) h.read
     ∙ length_padded (fields * max_rations) (numbers_of p.sheet.jobs) (omega (arith, length_numbers_of p.sheet.jobs, h.in_range.values.head.rations))
 
-pub days_can : {p q : Problem} {r r' : Reading} {d d' : Day} → DayOf p r d → DayOf q r' d' → CanOrder r.slots r.numbers d.fed r'.numbers d'.fed
+pub days_can : {p q : Problem} {r r' : Reading} {d d' : DayPlan} → DayOf p r (Ok d) → DayOf q r' (Ok d') → CanOrder r.slots r.numbers d.fed r'.numbers d'.fed
 days_can h k =
     record {
       day = day_slots h;
       numbers_long = record { first = numbers_long h; second = numbers_long k };
-      fed_long = fed_long h;
-      other_long = fed_long k;
+      fed_long = plan_fed_long h;
+      other_long = plan_fed_long k;
     }
 
-pub days_order : {p q : Problem} {r r' : Reading} {d d' : Day} → DayOf p r d → DayOf q r' d' → d.held ≡ false → d'.held ≡ false
+pub days_order : {p q : Problem} {r r' : Reading} {d d' : DayPlan} → DayOf p r (Ok d) → DayOf q r' (Ok d')
     → then_by (order_of_numbers r.slots r'.slots) (order_of_slots (tanks_of_words r.slots r.numbers d.fed) (tanks_of_words r'.slots r'.numbers d'.fed))
     ≡ order_of_plans (plan_for p) (plan_for q)
 unfolding order_of_plans
-days_order h k e f = ap₂ then_by (ap₂ order_of_numbers (slots_of_lem h) (slots_of_lem k)) (ap₂ order_of_slots (day_tanks h e) (day_tanks k f))
+days_order h k = ap₂ then_by (ap₂ order_of_numbers (slots_of_lem h) (slots_of_lem k)) (ap₂ order_of_slots (day_tanks h) (day_tanks k))
 
 -- ---- the answer
 
-planned_none : (p : Problem) (x : Bool) → x ≡ not (can_be_planned p) → x ≡ false → (rest : List Refusal) → first_refusal (held_faults p ++ rest) ≡ first_refusal rest
-planned_none p x f e rest = ap (λ y. first_refusal (fault no_placing 0 y ++ rest)) (sym f ∙ e)
+planned_none : (p : Problem) → can_be_planned p ≡ true → (rest : List Refusal) → first_refusal (held_faults p ++ rest) ≡ first_refusal rest
+planned_none p e rest = ap (λ y. first_refusal (fault no_placing 0 (not y) ++ rest)) e
 
-held_first : (p : Problem) (x : Bool) → x ≡ not (can_be_planned p) → x ≡ true → (rest : List Refusal) → first_refusal (held_faults p ++ rest) ≡ record { number = no_placing; line = 0 }
+held_first : (p : Problem) → can_be_planned p ≡ false → (rest : List Refusal) → first_refusal (held_faults p ++ rest) ≡ record { number = no_placing; line = 0 }
 unfolding first_refusal
-held_first p x f e rest = ap (λ y. first_refusal (fault no_placing 0 y ++ rest)) (sym f ∙ e)
+held_first p e rest = ap (λ y. first_refusal (fault no_placing 0 (not y) ++ rest)) e
 
 nothing_more : (xs : List Refusal) → first_refusal (xs ++ []) ≡ first_refusal xs
 unfolding first_refusal
@@ -118,31 +120,31 @@ module _ (a b : List ℕ) where
     pub compare_first : (r.number ≡ 0 → ⊥) → record { number = r.number; line = r.line; order = order_number No } ≡ compared_of a b
     compare_first n = refused (record { number = r.number; line = r.line }) (by_first n) n
 
-    module _ (z : r.number ≡ 0) {d : Day} (h : DayOf p r d) where
+    module _ (z : r.number ≡ 0) where
       after_first : compare_refusal a b ≡ first_refusal (held_faults p ++ (faults b ++ held_faults q))
       unfolding compare_refusal
       after_first = accepted_before (bytes_read a e) z (held_faults p ++ (faults b ++ held_faults q))
 
-      pub compare_first_held : d.held ≡ true → record { number = no_placing; line = 0; order = order_number No } ≡ compared_of a b
-      compare_first_held y =
-          refused (record { number = no_placing; line = 0 }) (after_first ∙ held_first p d.held h.held y (faults b ++ held_faults q)) (λ x. omega (arith, x))
+      pub compare_first_held : {d : HeldDay} → DayOf p r (Err d) → record { number = no_placing; line = 0; order = order_number No } ≡ compared_of a b
+      compare_first_held h =
+          refused (record { number = no_placing; line = 0 }) (after_first ∙ held_first p h.found.cannot (faults b ++ held_faults q)) (λ x. omega (arith, x))
 
-      module _ (y : d.held ≡ false) {r' : Reading} (e' : r' ≡ reading_of b) where
+      module _ {d : DayPlan} (h : DayOf p r (Ok d)) {r' : Reading} (e' : r' ≡ reading_of b) where
         after_held : compare_refusal a b ≡ first_refusal (faults b ++ held_faults q)
-        after_held = after_first ∙ planned_none p d.held h.held y (faults b ++ held_faults q)
+        after_held = after_first ∙ planned_none p h.found.can (faults b ++ held_faults q)
 
         pub compare_second : (r'.number ≡ 0 → ⊥) → record { number = r'.number; line = r'.line; order = order_number No } ≡ compared_of a b
         compare_second n =
             refused (record { number = r'.number; line = r'.line }) (after_held ∙ refused_before (bytes_read b e') n (held_faults q)) n
 
-        module _ (z' : r'.number ≡ 0) {d' : Day} (h' : DayOf q r' d') where
+        module _ (z' : r'.number ≡ 0) where
           after_second : compare_refusal a b ≡ first_refusal (held_faults q ++ [])
           after_second = after_held ∙ accepted_before (bytes_read b e') z' (held_faults q) ∙ sym (nothing_more (held_faults q))
 
-          pub compare_second_held : d'.held ≡ true → record { number = no_placing; line = 0; order = order_number No } ≡ compared_of a b
-          compare_second_held w =
-              refused (record { number = no_placing; line = 0 }) (after_second ∙ held_first q d'.held h'.held w []) (λ x. omega (arith, x))
+          pub compare_second_held : {d' : HeldDay} → DayOf q r' (Err d') → record { number = no_placing; line = 0; order = order_number No } ≡ compared_of a b
+          compare_second_held h' =
+              refused (record { number = no_placing; line = 0 }) (after_second ∙ held_first q h'.found.cannot []) (λ x. omega (arith, x))
 
-          pub compare_days : d'.held ≡ false → {n : ℕ} → n ≡ order_number (order_of_plans (plan_for p) (plan_for q)) → record { number = 0; line = 0; order = n } ≡ compared_of a b
+          pub compare_days : {d' : DayPlan} → DayOf q r' (Ok d') → {n : ℕ} → n ≡ order_number (order_of_plans (plan_for p) (plan_for q)) → record { number = 0; line = 0; order = n } ≡ compared_of a b
           unfolding compared_of order_of first_refusal
-          compare_days w {n} s = rw (after_second ∙ planned_none q d'.held h'.held w []) (λ i. record { number = 0; line = 0; order = s i })
+          compare_days h' {n} s = rw (after_second ∙ planned_none q h'.found.can []) (λ i. record { number = 0; line = 0; order = s i })

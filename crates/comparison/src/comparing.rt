@@ -29,18 +29,16 @@ pub fn compare(a: &[u8], b: &[u8]) -> Compared
     if first.number != 0 {
         return refuse_comparison(first.number, first.line);
     }
-    let one = day_of(first);
-    if one.held {
+    let Ok(one) = day_of(first) else {
         return refuse_comparison(NO_PLACING, 0);
-    }
+    };
     let second = sheet::read(b);
     if second.number != 0 {
         return refuse_comparison(second.number, second.line);
     }
-    let other = day_of(second);
-    if other.held {
+    let Ok(other) = day_of(second) else {
         return refuse_comparison(NO_PLACING, 0);
-    }
+    };
     let order = order_of_days(
         first.slots,
         &first.numbers,

@@ -1,7 +1,6 @@
 -- What the questions of a day say of its causes. Assumes nothing.
-use Rattle.std.specs.Prelude.{◌≡◌, refl, Bool, true, false, not, List, ℕ, ◌≤◌, length, replicate}
-use Rattle.std.proofs.Common.{sym, ap, ◌∙◌, subst, true≢false, arith}
-use Rattle.std.proofs.lemmas.Bool.{false≢true}
+use Rattle.std.specs.Prelude.{◌≡◌, refl, Bool, true, false, Some, None, List, ℕ, ◌≤◌, length, replicate}
+use Rattle.std.proofs.Common.{sym, ◌∙◌, subst, arith}
 use Rattle.checks.specs.Limits.{max_slots}
 use Rattle.common.specs.Buffers.{padded}
 use Rattle.schedules.specs.Schedules.{Demand, feasible}
@@ -43,15 +42,12 @@ module _ {slots rations : ℕ} (m : ℕ) {numbers W N H : List ℕ} (r : Rations
         }
 
     pub day_listed : {out out' : List ℕ} {x : Extent} → q ≡ true → AllListed x slots m F R H C out out'
-        → DayCauses (record { held = false; length = x.length; cut = x.cut }) slots m ds (replicate slots m) out out'
-    day_listed {out} {out'} {x} e a =
-        record {
-          held = ap not (sym e ∙ answer);
-          kept = λ z. absurd (false≢true z);
-          listed = λ z.
-              subst (λ es. Listing es out out' x)
-              (sym (endings_settled (under e).windows m (under_possible (under e)))) (a ds (day_bounds slots m) (under e));
-        }
+        → DayCauses (Some x) slots m ds (replicate slots m) out out'
+    day_listed {out} {out'} {x} e a = (
+      sym answer ∙ e,
+      subst (λ es. Listing es out out' x)
+          (sym (endings_settled (under e).windows m (under_possible (under e)))) (a ds (day_bounds slots m) (under e)),
+    )
 
-    pub day_held : {out : List ℕ} → q ≡ false → DayCauses (record { held = true; length = 0; cut = false }) slots m ds (replicate slots m) out out
-    day_held e = record { held = ap not (sym e ∙ answer); kept = λ z. refl; listed = λ z. absurd (true≢false z) }
+    pub day_held : {out : List ℕ} → q ≡ false → DayCauses None slots m ds (replicate slots m) out out
+    day_held e = (sym answer ∙ e, refl)

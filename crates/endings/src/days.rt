@@ -4,17 +4,19 @@ ghost use Rattle.placing.specs.Rations.{Rations, demands_from};
 ghost use Rattle.plan_lines.specs.Sizes.{causes_bytes};
 ghost use Rattle.endings.specs.DayCauses.{DayCauses};
 
-use crate::{DayListed, settling};
+use crate::settling;
+use cause_lines::Extent;
 use placing::{begin, held, windows};
 
-// Lists the causes of a day of so many slots and blowers from the front of out on; of a held day nothing is written.
+// Lists the causes of a day of so many slots and blowers from the front of out on; None of a held day, for which nothing
+// is written.
 pub fn list_day(
     slots: usize,
     blowers: u8,
     rations: usize,
     numbers: &[u32; 256],
     out: &mut [u8],
-) -> DayListed
+) -> Option<Extent>
     requires { Rations slots rations numbers.now × (causes_bytes ≤ length out.old) }
     ensures { DayCauses result slots blowers (demands_from slots rations numbers.now) (replicate slots blowers)
         out.old out.new }
@@ -34,15 +36,7 @@ pub fn list_day(
         let listed = settling::list_stretches(
             &mut fed, &mut rest, &mut high, &mut spare, &mut seen, out, slots, blowers,
         );
-        return DayListed {
-            held: false,
-            length: listed.length,
-            cut: listed.cut,
-        };
+        return Some(listed);
     }
-    DayListed {
-        held: true,
-        length: 0,
-        cut: false,
-    }
+    None
 }

@@ -19,11 +19,3 @@ pub struct Progress {
     pub first: usize,
     pub extent: Extent,
 }
-
-// A day with the causes of its stretches listed; or held, with nothing written.
-#[derive(Clone, Copy)]
-pub struct DayListed {
-    pub held: bool,
-    pub length: usize,
-    pub cut: bool,
-}

@@ -1,6 +1,6 @@
 -- How a planning call's answer and its lent buffers follow from what it read, found and wrote, whatever checks its
 -- sheet passed, whatever problem was planned and whatever buffers it was lent. Assumes nothing.
-use Rattle.std.specs.Prelude.{◌≡◌, Bool, true, false, not, ◌||◌, cond, ℕ, ◌≤◌, ◌<◌, ltb}
+use Rattle.std.specs.Prelude.{◌≡◌, Bool, true, false, not, ◌||◌, cond, Result, is_err, ℕ, ◌≤◌, ◌<◌, ltb}
 use Rattle.std.proofs.Math.Path.{refl, sym, ap, subst}
 use Rattle.std.proofs.Common.{◌∙◌, arith, lt-ltb, le-ltb, ltb-false, ne_eqb}
 use mathlib.Core.List.{List, [], ◌∷◌, ◌++◌, cons≢nil}
@@ -15,13 +15,15 @@ use Rattle.checks.specs.Limits.{max_slots}
 use Rattle.checks.specs.FaultLaws.{Numbered}
 use Rattle.sheet.specs.OwnChecks.{OfSheet, ReadFrom}
 use Rattle.sheet.proofs.OwnCheckLaws.{refused_before, accepted_before, not_held}
-use Rattle.stretches.specs.declared.Day.{Day}
+use Rattle.stretches.specs.declared.DayPlan.{DayPlan}
+use Rattle.stretches.specs.declared.HeldDay.{HeldDay}
+use Rattle.stretches.specs.Days.{busy_counts}
 use Rattle.plan_lines.specs.Sizes.{plan_bytes, placing_words}
 use Rattle.listing.specs.Opening.{Written}
 use Rattle.planning.specs.Problem.{Problem, can_be_planned, counts_of, listing_of, words_for}
 use Rattle.planning.specs.Planning.{held_faults, plan_checks, short_plan, short_placing, writes, listed_answer, unlisted_answer, listing_after, placing_after, busy_after}
 use Rattle.planning.specs.Clauses.{DayOf, NumberOf, Listed}
-use Rattle.planning.proofs.DayLaws.{day_counts}
+use Rattle.planning.proofs.DayLaws.{held_is, day_counts}
 
 -- ---- the buffers' lengths
 
@@ -180,23 +182,23 @@ module _ {own : List Refusal} {s : Sheet} {r : Reading} (h : ReadFrom own s r) (
     pub by_outcome : short ≡ false → (x : Bool) → x ≡ not (can_be_planned p) → record { number = NumberOf x; line = 0 } ≡ refusal
     by_outcome l x k = sym (after_read ∙ ap (λ y. first_refusal (fault short_buffer 0 y ++ held_faults p)) l ∙ day_refusal p x k)
 
-    module _ (l : short ≡ false) {d : Day} (k : DayOf p r d) where
+    module _ (l : short ≡ false) {d : Result DayPlan HeldDay} (k : DayOf p r d) where
       abbrev outcome : Refusal
-      outcome = record { number = NumberOf d.held; line = 0 }
+      outcome = record { number = NumberOf (is_err d); line = 0 }
 
       by_day : outcome ≡ refusal
-      by_day = by_outcome l d.held k.held
+      by_day = by_outcome l (is_err d) (held_is d k)
 
-      pub listed_day : {old new : List ℕ} {n : ℕ} → Written (listing_of p) old new n → Listed refusal (listing_of p) old new (record { number = NumberOf d.held; line = 0; length = n })
+      pub listed_day : {old new : List ℕ} {n : ℕ} → Written (listing_of p) old new n → Listed refusal (listing_of p) old new (record { number = NumberOf (is_err d); line = 0; length = n })
       listed_day {old} {new} {n} w =
-          subst (λ f. Listed f (listing_of p) old new (record { number = NumberOf d.held; line = 0; length = n })) by_day
-          (listed_text outcome (writes_day d.held) (listing_of p) w)
+          subst (λ f. Listed f (listing_of p) old new (record { number = NumberOf (is_err d); line = 0; length = n })) by_day
+          (listed_text outcome (writes_day (is_err d)) (listing_of p) w)
 
       pub placed_day : (old new : List ℕ) → new ≡ over (words_for p) old → new ≡ placing_after refusal (words_for p) old
-      placed_day old new w = subst (λ f. new ≡ placing_after f (words_for p) old) by_day (placed_words outcome (writes_day d.held) (words_for p) old new w)
+      placed_day old new w = subst (λ f. new ≡ placing_after f (words_for p) old) by_day (placed_words outcome (writes_day (is_err d)) (words_for p) old new w)
 
-      pub busy_day : d.counts ≡ busy_after refusal p
-      busy_day = day_counts k ∙ subst (λ f. cond d.held (replicate max_slots 0) (padded max_slots (counts_of p)) ≡ busy_after f p) by_day (busy_outcome d.held p)
+      pub busy_day : busy_counts d ≡ busy_after refusal p
+      busy_day = day_counts d k ∙ subst (λ f. cond (is_err d) (replicate max_slots 0) (padded max_slots (counts_of p)) ≡ busy_after f p) by_day (busy_outcome (is_err d) p)
 
-      pub unlisted_day : record { number = NumberOf d.held; line = 0; length = 0 } ≡ unlisted_answer refusal
+      pub unlisted_day : record { number = NumberOf (is_err d); line = 0; length = 0 } ≡ unlisted_answer refusal
       unlisted_day = unlisted outcome ∙ ap unlisted_answer by_day

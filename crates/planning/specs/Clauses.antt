@@ -1,6 +1,6 @@
 -- What the functions within the crate and those for the layers above require and ensure. Definitions only. Assumes
 -- nothing.
-use Rattle.std.specs.Prelude.{◌≡◌, Bool, true, false, not, ◌||◌, List, ℕ, ◌≤◌, ◌<◌, length, get_or, replicate}
+use Rattle.std.specs.Prelude.{◌≡◌, Bool, true, false, ◌||◌, Result, Ok, Err, List, ℕ, ◌≤◌, ◌<◌, length, get_or, replicate}
 use Rattle.checks.specs.declared.Refusal.{Refusal}
 use Rattle.sheet.specs.declared.Reading.{Reading}
 use Rattle.checks.specs.Limits.{max_slots}
@@ -13,7 +13,8 @@ use Rattle.schedules.specs.Shortfall.{forced, capacity}
 use Rattle.schedules.specs.Tabulate.{tab}
 use Rattle.placing.specs.Represents.{marks_of}
 use Rattle.feedings.specs.CellChoice.{ScheduleWords}
-use Rattle.stretches.specs.declared.Day.{Day}
+use Rattle.stretches.specs.declared.DayPlan.{DayPlan}
+use Rattle.stretches.specs.declared.HeldDay.{HeldDay}
 use Rattle.stretches.specs.Days.{HighsOf, SomeHighs}
 use Rattle.listing.specs.Opening.{Written}
 use Rattle.planning.specs.declared.Planned.{Planned}
@@ -23,27 +24,34 @@ use Rattle.planning.specs.Planning.{plan_checks, plan_refusal_for, short_plan, s
 
 -- The day of a problem ------------------------------------------------------------------------
 
+-- d is the plan of problem p: it can be planned, and these are the counts and the feedings
+pub record PlanFor (p : Problem) (d : DayPlan) : Type 0 where
+  pub can : can_be_planned p ≡ true
+  pub counts_long : length d.counts ≡ max_slots
+  pub counted : (t : ℕ) → t < p.sheet.slots → get_or d.counts t 0 ≡ get_or (counts_of p) t 0
+  pub fed : ScheduleWords (length p.sheet.jobs) p.sheet.slots (feedings_of p) d.fed
+  pub counts_past : (t : ℕ) → p.sheet.slots ≤ t → get_or d.counts t 0 ≡ 0
+
+-- d is problem p held: the slots shown, what is forced into them, and the sum of the room over them
+pub record HoldFor (p : Problem) (d : HeldDay) : Type 0 where
+  pub cannot : can_be_planned p ≡ false
+  pub marks_long : length d.marks ≡ max_slots
+  pub shown : shown_set p ≡ tab p.sheet.slots (marks_of d.marks)
+  pub forced_in : d.forced ≡ forced (left p) (shown_set p)
+  pub high_over : d.capacity ≡ capacity (room p) (shown_set p)
+
+abbrev pub FoundFor : Problem → Result DayPlan HeldDay → Type 0
+FoundFor p (Ok d) = PlanFor p d
+FoundFor p (Err d) = HoldFor p d
+
 -- d is the day of problem p, whose sheet was read as r
-pub record DayOf (p : Problem) (r : Reading) (d : Day) : Type 0 where
+pub record DayOf (p : Problem) (r : Reading) (d : Result DayPlan HeldDay) : Type 0 where
   pub in_range : ProblemInRange p
   pub read : r ≡ accepted p.sheet
-  pub held : d.held ≡ not (can_be_planned p)
-  pub counts_long : length d.counts ≡ max_slots
-  pub marks_long : length d.marks ≡ max_slots
-  -- planned: the counts and the feedings
-  pub counted : d.held ≡ false → (t : ℕ) → t < p.sheet.slots → get_or d.counts t 0 ≡ get_or (counts_of p) t 0
-  pub fed : d.held ≡ false → ScheduleWords (length p.sheet.jobs) p.sheet.slots (feedings_of p) d.fed
-  pub counts_past : d.held ≡ false → (t : ℕ) → p.sheet.slots ≤ t → get_or d.counts t 0 ≡ 0
-  -- held: the slots shown, what is forced into them, and the sum of the room over them
-  pub shown : d.held ≡ true → shown_set p ≡ tab p.sheet.slots (marks_of d.marks)
-  pub forced_in : d.held ≡ true → d.forced ≡ forced (left p) (shown_set p)
-  pub high_over : d.held ≡ true → d.capacity ≡ capacity (room p) (shown_set p)
-  -- .. and no count and no feeding
-  pub no_counts : d.held ≡ true → d.counts ≡ replicate max_slots 0
-  pub no_fed : d.held ≡ true → d.fed ≡ replicate max_slots 0
+  pub found : FoundFor p d
 
 -- d is the day of some problem over the sheet that was read
-pub record SomeDay (r : Reading) (d : Day) : Type 0 where
+pub record SomeDay (r : Reading) (d : Result DayPlan HeldDay) : Type 0 where
   pub problem : Problem
   pub day : DayOf problem r d
 
@@ -55,17 +63,17 @@ NumberOf false = 0
 -- Finding it, and writing it ---------------------------------------------------------------------
 
 -- d is the day of whatever sheet was read, planned alone
-abbrev pub DayFound : Reading → Day → Type 0
+abbrev pub DayFound : Reading → Result DayPlan HeldDay → Type 0
 DayFound r d = (own : List Refusal) (s : Sheet) → ReadFrom own s r → r.number ≡ 0 → DayOf (alone s) r d
 
 -- the same under whatever highs the bytes H have
-abbrev pub DayFoundUnder : Reading → (H : List ℕ) → Day → Type 0
+abbrev pub DayFoundUnder : Reading → (H : List ℕ) → Result DayPlan HeldDay → Type 0
 DayFoundUnder r H d =
     (own : List Refusal) (s : Sheet) → ReadFrom own s r → r.number ≡ 0 → (high : List ℕ) → HighsOf r.slots r.blowers high H
     → DayOf (whole_day s high) r d
 
 -- the listing of whatever problem it is the day of was written, and n is its length
-abbrev pub DayListed : Reading → Day → (old new : List ℕ) → ℕ → Type 0
+abbrev pub DayListed : Reading → Result DayPlan HeldDay → (old new : List ℕ) → ℕ → Type 0
 DayListed r d old new n = (p : Problem) → DayOf p r d → Written (listing_of p) old new n
 
 -- Planning a sheet that was read, whatever checks were made of it --------------------------------

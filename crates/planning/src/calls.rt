@@ -1,6 +1,6 @@
 // The planning calls. Each over a sheet's bytes reads them and hands the reading to the function that plans it; the
 // calls on records hand over a reading of their own.
-ghost use Rattle.std.specs.Prelude.{◌≡◌, false, ◌||◌, ◌≤◌, ltb, length, replicate};
+ghost use Rattle.std.specs.Prelude.{◌≡◌, false, is_err, ◌||◌, ◌≤◌, ltb, length, replicate};
 ghost use Rattle.common.specs.Buffers.{padded};
 ghost use Rattle.checks.specs.Limits.{max_slots, max_blowers};
 ghost use Rattle.checks.specs.Sheet.{sheet_of};
@@ -16,7 +16,7 @@ use checks::refusals::{NO_PLACING, SHORT_BUFFER};
 use listing::{held, placing_words, plan_listing};
 use plan_lines::sizes::{PLACING_WORDS, PLAN_BYTES};
 use sheet::Reading;
-use stretches::Day;
+use stretches::{DayPlan, HeldDay};
 
 // An answer of length 0: no listing was written.
 fn refuse(number: u32, line: u32) -> Planned
@@ -40,7 +40,7 @@ fn full_highs(slots: u32, blowers: u32) -> [u8; 96]
 }
 
 // The day of an accepted sheet under a high for each slot.
-fn day_under(sheet: Reading, highs: &[u8; 96]) -> Day
+fn day_under(sheet: Reading, highs: &[u8; 96]) -> Result<DayPlan, HeldDay>
     requires { ReadSheet sheet × SomeHighs sheet.slots sheet.blowers highs.now }
     ensures { DayFoundUnder sheet highs.now result }
 {
@@ -55,7 +55,7 @@ fn day_under(sheet: Reading, highs: &[u8; 96]) -> Day
 }
 
 // The day of an accepted sheet.
-pub fn day_of(sheet: Reading) -> Day
+pub fn day_of(sheet: Reading) -> Result<DayPlan, HeldDay>
     requires { ReadSheet sheet }
     ensures { DayFound sheet result }
 {
@@ -64,34 +64,33 @@ pub fn day_of(sheet: Reading) -> Day
 }
 
 // Writes the listing of a day, planned or held, and answers its length.
-fn list_day(sheet: Reading, day: Day, out: &mut [u8]) -> usize
-    requires { SomeDay sheet day × (plan_bytes ≤ length out.old) }
-    ensures { DayListed sheet day out.old out.new result }
+fn list_day(sheet: Reading, day: &Result<DayPlan, HeldDay>, out: &mut [u8]) -> usize
+    requires { SomeDay sheet day.now × (plan_bytes ≤ length out.old) }
+    ensures { DayListed sheet day.now out.old out.new result }
 {
     let slots = sheet.slots as usize;
-    if day.held {
-        let marks = day.marks;
-        return held::put_held(out, slots, &marks, day.forced, day.capacity);
+    match day {
+        Ok(plan) => {
+            let numbers = sheet.numbers;
+            plan_listing::put_plan(
+                out,
+                slots,
+                sheet.blowers,
+                sheet.wake,
+                &plan.counts,
+                &numbers,
+                &plan.fed,
+            )
+        }
+        Err(shown) => held::put_held(out, slots, &shown.marks, shown.forced, shown.capacity),
     }
-    let counts = day.counts;
-    let numbers = sheet.numbers;
-    let fed = day.fed;
-    plan_listing::put_plan(
-        out,
-        slots,
-        sheet.blowers,
-        sheet.wake,
-        &counts,
-        &numbers,
-        &fed,
-    )
 }
 
-// The number of a day that was planned, or held for want of blowers.
-fn number_of(is_held: bool) -> u32
-    ensures { result ≡ NumberOf is_held }
+// The number of a day: it was planned, or held for want of blowers.
+fn number_of(day: &Result<DayPlan, HeldDay>) -> u32
+    ensures { result ≡ NumberOf (is_err day.now) }
 {
-    if is_held { NO_PLACING } else { 0 }
+    if day.is_err() { NO_PLACING } else { 0 }
 }
 
 // Whether a placing buffer of so many words is too short.
@@ -113,9 +112,9 @@ pub fn plan_of(sheet: Reading, listing: &mut [u8]) -> Planned
         return refuse(SHORT_BUFFER, 0);
     }
     let day = day_of(sheet);
-    let length = list_day(sheet, day, listing);
+    let length = list_day(sheet, &day, listing);
     Planned {
-        number: number_of(day.held),
+        number: number_of(&day),
         line: 0,
         length,
     }
@@ -133,9 +132,9 @@ pub fn plan_placing_of(sheet: Reading, placing: &mut [u64]) -> Planned
         return refuse(SHORT_BUFFER, 0);
     }
     let day = day_of(sheet);
-    let fed = day.fed;
+    let fed = stretches::fed_words(&day);
     placing_words::put_words(placing, &fed);
-    refuse(number_of(day.held), 0)
+    refuse(number_of(&day), 0)
 }
 
 // An answer where no day was planned: no blower is busy in any slot.
@@ -168,18 +167,17 @@ pub fn plan_under(
         return refuse_day(SHORT_BUFFER, 0);
     }
     let day = day_under(sheet, highs);
-    let fed = day.fed;
+    let fed = stretches::fed_words(&day);
     placing_words::put_words(placing, &fed);
-    let length = list_day(sheet, day, listing);
+    let length = list_day(sheet, &day, listing);
     let planned = Planned {
-        number: number_of(day.held),
+        number: number_of(&day),
         line: 0,
         length,
     };
-    let busy = day.counts;
     PlannedDay {
         planned,
-        counts: busy,
+        counts: stretches::busy_counts(&day),
     }
 }
 
@@ -202,7 +200,7 @@ pub fn plan_number_of(sheet: Reading) -> Planned
         return refuse(sheet.number, sheet.line);
     }
     let day = day_of(sheet);
-    refuse(number_of(day.held), 0)
+    refuse(number_of(&day), 0)
 }
 
 // Plans a sheet, with a plan buffer lent: number 0 and the length of the listing of the plan, or 12 and that of the

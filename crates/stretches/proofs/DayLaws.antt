@@ -1,8 +1,7 @@
 -- What the questions of a day say together: the answers of `choose_day`, `plan_words` and `plan_day`. Assumes nothing.
-use Rattle.std.specs.Prelude.{◌≡◌, refl, Bool, true, false, not, List, ℕ, ◌≤◌, ◌<◌, length, get_or, take, replicate}
-use Rattle.std.proofs.Common.{sym, ◌∙◌, subst, true≢false, arith}
+use Rattle.std.specs.Prelude.{◌≡◌, refl, Bool, true, false, Result, Ok, Err, List, ℕ, ◌≤◌, ◌<◌, length, get_or, take, replicate}
+use Rattle.std.proofs.Common.{sym, ◌∙◌, subst, arith}
 use Rattle.std.proofs.Math.Path.{ap}
-use Rattle.std.proofs.lemmas.Bool.{false≢true}
 use Rattle.checks.specs.Limits.{max_slots}
 use Rattle.schedules.specs.Schedules.{Demand}
 use Rattle.schedules.specs.Shortfall.{critical_set}
@@ -16,7 +15,8 @@ use Rattle.common.specs.FillLaws.{get_d_padded, padded_past}
 use Rattle.placing.specs.HeldSteps.{highs_capacity}
 use Rattle.feedings.specs.CellChoice.{Feedable}
 use Rattle.feedings.specs.ExactlyLaws.{represents_feedable}
-use Rattle.stretches.specs.declared.Day.{Day}
+use Rattle.stretches.specs.declared.DayPlan.{DayPlan}
+use Rattle.stretches.specs.declared.HeldDay.{HeldDay}
 use Rattle.method.specs.Method.{Bounds, bounds_under, FeasibleDay, settle_all, loads}
 use Rattle.method.specs.Slotwise.{settle_each}
 use Rattle.stretches.specs.Settling.{Under, SomeDay, AllSettled}
@@ -56,12 +56,12 @@ module _ (slots m : ℕ) {F R H C F₁ R₁ H₁ C₁ : List ℕ} (a : AllSettle
   pub settled_feedable : SomeDay slots F R H C → Feedable F₁ R₁ H₁
   settled_feedable s = represents_feedable (a.settled s.demands s.bounds s.under)
 
-  pub can_choose : {rations : ℕ} {W : List ℕ} → CanChooseDay slots rations F R H C W
-      → CanChoose F₁ R₁ H₁ W slots rations
-  can_choose s = record { words = settled_feedable s.day; blank = s.blank; short = s.short; few = s.few }
+  pub can_choose : {rations : ℕ} → CanChooseDay slots rations F R H C
+      → CanChoose F₁ R₁ H₁ (replicate max_slots 0) slots rations
+  can_choose s = record { words = settled_feedable s.day; blank = refl; short = s.short; few = s.few }
 
-  pub day_chosen : {rations : ℕ} {W₀ W : List ℕ} → CanChooseDay slots rations F R H C W₀
-      → Chose F₁ R₁ H₁ W slots rations → DayChosen slots m rations F R H C H₁ W
+  pub day_chosen : {rations : ℕ} {W : List ℕ} → CanChooseDay slots rations F R H C
+      → Chose F₁ R₁ H₁ W slots rations → DayChosen slots m rations F R H C (record { counts = H₁; fed = W })
   day_chosen s c =
       record {
         long = (settled_feedable s.day).counts;
@@ -77,7 +77,7 @@ module _ {slots rations : ℕ} (m : ℕ) {W N H : List ℕ} (p : CanPlan slots r
   can_begin_words c = can_begin p.day p.highs c
 
   module _ {q : Bool} {F R C S : List ℕ} (b : Begun q W N H F R C S) where
-    pub can_choose_words : q ≡ true → CanChooseDay slots rations F R H C (replicate max_slots 0)
+    pub can_choose_words : q ≡ true → CanChooseDay slots rations F R H C
     can_choose_words e =
         record {
           day =
@@ -88,56 +88,31 @@ module _ {slots rations : ℕ} (m : ℕ) {W N H : List ℕ} (p : CanPlan slots r
                     b.yes e slots p.day.demands (take slots H) p.day.words
                     (high_words (some_short p.day) p.highs);
               };
-          blank = refl;
           short = some_short p.day;
           few = p.few;
         }
 
-    pub words_planned : q ≡ true → {counts fed : List ℕ} → DayChosen slots m rations F R H C counts fed
-        → let zeros : List ℕ = replicate max_slots 0 in
-        WordsPlanned (record { held = false; counts = counts; fed = fed; marks = zeros; forced = 0; capacity = 0 })
-        slots m rations W N H
+    pub words_planned : q ≡ true → {d : DayPlan} → DayChosen slots m rations F R H C d → WordsPlanned (Ok d) slots m rations W N H
     words_planned e c ds high d g n below =
         let u = b.yes e slots ds high d g in
         record {
-          held = ap not (sym e ∙ b.answer slots ds high d g);
+          can = sym (b.answer slots ds high d g) ∙ e;
           counts_long = c.long;
-          marks_long = refl;
-          counted = λ _. c.counted ds (bounds_under slots high) u below;
-          counts_past = λ _ t l. c.past t l ∙ p.past t l;
-          fed = λ _. c.fed ds (bounds_under slots high) n u below;
-          no_marks = λ _. refl;
-          no_forced = λ _. refl;
-          no_capacity = λ _. refl;
-          shown = λ z. absurd (false≢true z);
-          marks_past = λ z. absurd (false≢true z);
-          forced_in = λ z. absurd (false≢true z);
-          high_over = λ z. absurd (false≢true z);
-          no_counts = λ z. absurd (false≢true z);
-          no_fed = λ z. absurd (false≢true z);
+          counted = c.counted ds (bounds_under slots high) u below;
+          counts_past = λ t l. c.past t l ∙ p.past t l;
+          fed = c.fed ds (bounds_under slots high) n u below;
         }
 
     pub words_held : q ≡ false → {x y : ℕ} → x ≡ marked_loads slots F S → y ≡ marked_highs slots H S
-        → let zeros : List ℕ = replicate max_slots 0 in
-        WordsPlanned (record { held = true; counts = zeros; fed = zeros; marks = S; forced = x; capacity = y })
-        slots m rations W N H
+        → WordsPlanned (Err (record { marks = S; forced = x; capacity = y })) slots m rations W N H
     words_held e {x} {y} u v ds high d g n below =
         record {
-          held = ap not (sym e ∙ b.answer slots ds high d g);
-          counts_long = refl;
+          cannot = sym (b.answer slots ds high d g) ∙ e;
           marks_long = b.marks_long e;
-          counted = λ z. absurd (true≢false z);
-          counts_past = λ z. absurd (true≢false z);
-          fed = λ z. absurd (true≢false z);
-          no_marks = λ z. absurd (true≢false z);
-          no_forced = λ z. absurd (true≢false z);
-          no_capacity = λ z. absurd (true≢false z);
-          shown = λ _. b.marked e slots ds high d g;
-          marks_past = λ _. b.marks_past e slots ds d;
-          forced_in = λ _. u ∙ sym (b.counted e slots ds high d g);
-          high_over = λ _. v ∙ highs_capacity S (critical_set slots ds high) g (b.marked e slots ds high d g);
-          no_counts = λ _. refl;
-          no_fed = λ _. refl;
+          shown = b.marked e slots ds high d g;
+          marks_past = b.marks_past e slots ds d;
+          forced_in = u ∙ sym (b.counted e slots ds high d g);
+          high_over = v ∙ highs_capacity S (critical_set slots ds high) g (b.marked e slots ds high d g);
         }
 
 -- ---- `plan_day`
@@ -154,9 +129,9 @@ module _ {slots rations : ℕ} (m : ℕ) {numbers W N H : List ℕ} (r : Rations
         past = λ t l. ap (λ x. get_or x t 0) h.bytes ∙ padded_past max_slots high t (omega (arith, h.each));
       }
 
-  pub day_planned : {d : Day} → WordsPlanned d slots m rations W N H
+  pub day_planned : (d : Result DayPlan HeldDay) → WordsPlanned d slots m rations W N H
       → DayPlanned d slots m (demands_from slots rations numbers) high
-  day_planned p =
+  day_planned d p =
       p (demands_from slots rations numbers) high (demand_words r w v)
       (record {
         long = h.each;

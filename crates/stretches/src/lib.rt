@@ -10,26 +10,32 @@
 // above: the functions ask for words of some demands, or for rations and counts in range.
 #![tactic(auto)]
 
+mod days;
 mod intervals;
 mod planning;
 mod settle;
 
+pub use days::{busy_counts, fed_words};
 pub use intervals::{is_busy, stretch_end};
 pub use planning::{plan_day, plan_words};
 pub use settle::keep;
 
-// A day planned, or held for want of blowers.
+// A day planned.
 #[derive(Clone, Copy)]
-pub struct Day {
-    pub held: bool,
+pub struct DayPlan {
     // the count of each slot
     pub counts: [u8; 96],
     // the feedings: bit j of word t says that ration j + 1 is fed in slot t + 1
     pub fed: [u64; 96],
-    // of a held day: not 0 in the slots that it shows
+}
+
+// A day held for want of blowers, with what shows why.
+#[derive(Clone, Copy)]
+pub struct HeldDay {
+    // not 0 in the slots that it shows
     pub marks: [u8; 96],
-    // of a held day: the feedings forced into these slots
+    // the feedings forced into these slots
     pub forced: u32,
-    // of a held day: the sum of the highs over these slots
+    // the sum of the highs over these slots
     pub capacity: u32,
 }

@@ -2,28 +2,31 @@
 ghost use Rattle.placing.specs.Rations.{Rations, demands_from};
 ghost use Rattle.stretches.specs.Days.{CanChooseDay, DayChosen, CanPlan, WordsPlanned, SomeHighs, DayUnder};
 
-use crate::{Day, settle};
+use crate::{DayPlan, HeldDay, settle};
 use placing::{begin, held, windows};
 
-// Settles the blowers and chooses the feedings, from words that hold a sound placing; gives the counts.
+// Settles the blowers and chooses the feedings, from words that hold a sound placing.
 fn choose_day(
     fed: &mut [u64; 96],
     rest: &mut [u64; 96],
     high: &mut [u8; 96],
     spare: &mut [u8; 96],
     seen: &mut [u8; 96],
-    chosen: &mut [u64; 96],
     slots: usize,
     blowers: u8,
     rations: usize,
-) -> [u8; 96]
-    requires { CanChooseDay slots rations fed.old rest.old high.old spare.old chosen.old }
-    ensures { DayChosen slots blowers rations fed.old rest.old high.old spare.old result chosen.new }
+) -> DayPlan
+    requires { CanChooseDay slots rations fed.old rest.old high.old spare.old }
+    ensures { DayChosen slots blowers rations fed.old rest.old high.old spare.old result }
 {
     settle::settle(fed, rest, high, spare, seen, slots, blowers);
     let counts = *high;
-    feedings::choose(fed, rest, high, seen, chosen, slots, rations);
-    counts
+    let mut chosen = [0u64; 96];
+    feedings::choose(fed, rest, high, seen, &mut chosen, slots, rations);
+    DayPlan {
+        counts,
+        fed: chosen,
+    }
 }
 
 // Plans a day of so many slots and blowers. Bit j of `windows[t]` says that slot t is in the window of ration j,
@@ -35,7 +38,7 @@ pub fn plan_words(
     windows: &[u64; 96],
     volumes: &[u8; 64],
     highs: &[u8; 96],
-) -> Day
+) -> Result<DayPlan, HeldDay>
     requires { CanPlan slots rations windows.now volumes.now highs.now }
     ensures { WordsPlanned result slots blowers rations windows.now volumes.now
         highs.now }
@@ -48,37 +51,18 @@ pub fn plan_words(
         windows, volumes, highs, &mut fed, &mut rest, &mut spare, &mut seen,
     ) {
         let mut high = *highs;
-        let mut chosen = [0u64; 96];
-        let counts = choose_day(
-            &mut fed,
-            &mut rest,
-            &mut high,
-            &mut spare,
-            &mut seen,
-            &mut chosen,
-            slots,
-            blowers,
-            rations,
+        let plan = choose_day(
+            &mut fed, &mut rest, &mut high, &mut spare, &mut seen, slots, blowers, rations,
         );
-        return Day {
-            held: false,
-            counts,
-            fed: chosen,
-            marks: [0u8; 96],
-            forced: 0,
-            capacity: 0,
-        };
+        return Ok(plan);
     }
     let forced = held::marked_loads(slots, &fed, &seen);
     let capacity = held::marked_highs(slots, highs, &seen);
-    Day {
-        held: true,
-        counts: [0u8; 96],
-        fed: [0u64; 96],
+    Err(HeldDay {
         marks: seen,
         forced,
         capacity,
-    }
+    })
 }
 
 // Plans a day of rations in flat numbers, under a high for each slot: at most the blowers, and 0 past the day.
@@ -88,7 +72,7 @@ pub fn plan_day(
     rations: usize,
     numbers: &[u32; 256],
     highs: &[u8; 96],
-) -> Day
+) -> Result<DayPlan, HeldDay>
     requires { Rations slots rations numbers.now × SomeHighs slots blowers highs.now }
     ensures { DayUnder result slots blowers (demands_from slots rations numbers.now) highs.now }
 {

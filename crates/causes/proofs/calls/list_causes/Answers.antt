@@ -19,13 +19,13 @@ returns-then-out-lt-CAUSES_BYTES c = let a = causes_short (bytes_read _ c.read-s
 pub overflow_cast-sheet-2 : goal.overflow_cast-sheet-2
 overflow_cast-sheet-2 c = omega (arith, (sheet_read_lem (bytes_read _ c.read-sheet.ensures) c.if-sheet-ne0.false).blown)
 
-pub list_day-day-requires : goal.list_day-day-requires
-list_day-day-requires c = ((sheet_read_lem (bytes_read _ c.read-sheet.ensures) c.if-sheet-ne0.false).rations, c.if-out-lt-CAUSES_BYTES.false)
+pub list_day-requires : goal.list_day-requires
+list_day-requires c = ((sheet_read_lem (bytes_read _ c.read-sheet.ensures) c.if-sheet-ne0.false).rations, c.if-out-lt-CAUSES_BYTES.false)
 
-pub returns-then-day : goal.returns-then-day
+pub returns-in_default : goal.returns-in_default
 unfolding plan_refusal
-returns-then-day c = let a = causes_held (bytes_read _ c.read-sheet.ensures) (short_causes c.args.out.now) c.if-sheet-ne0.false (room_causes _ c.if-out-lt-CAUSES_BYTES.false) c.list_day-day.ensures c.if-day.true in record { value = c.refuse-then-day.ensures ∙ a.0; out_bytes = a.1 }
+returns-in_default c = let a = causes_held (bytes_read _ c.read-sheet.ensures) (short_causes c.args.out.now) c.if-sheet-ne0.false (room_causes _ c.if-out-lt-CAUSES_BYTES.false) c.args.out.now _ (rw c.in_default.is at c.list_day.ensures) in record { value = c.refuse-in_default.ensures ∙ a.0; out_bytes = a.1 }
 
 pub returns : goal.returns
 unfolding plan_refusal
-returns c = let all = causes_day (bytes_read _ c.read-sheet.ensures) (short_causes c.args.out.now) c.if-sheet-ne0.false (room_causes _ c.if-out-lt-CAUSES_BYTES.false) c.list_day-day.ensures c.if-day.false in record { value = all.0; out_bytes = all.1 }
+returns c = let all = causes_day (bytes_read _ c.read-sheet.ensures) (short_causes c.args.out.now) c.if-sheet-ne0.false (room_causes _ c.if-out-lt-CAUSES_BYTES.false) c.args.out.now _ _ (rw c.in-Some.is at c.list_day.ensures) in record { value = all.0; out_bytes = all.1 }

@@ -8,23 +8,27 @@ use Rattle.comparison.proofs.comparing.compare.Goals as goal
 pub returns-then-first-ne0 : goal.returns-then-first-ne0
 returns-then-first-ne0 c = c.refuse_comparison.ensures ∙ compare_first c.args.a.now c.args.b.now c.read-first.ensures c.if-first-ne0.true
 
-pub day_of-one-requires : goal.day_of-one-requires
-day_of-one-requires c = record { some = record { own = _; sheet = _; read = bytes_read _ c.read-first.ensures }; zero = c.if-first-ne0.false }
+pub day_of-requires : goal.day_of-requires
+day_of-requires c = record { some = record { own = _; sheet = _; read = bytes_read _ c.read-first.ensures }; zero = c.if-first-ne0.false }
 
-pub returns-then-one : goal.returns-then-one
-returns-then-one c = c.refuse_comparison-then-one.ensures ∙ compare_first_held c.args.a.now c.args.b.now c.read-first.ensures c.if-first-ne0.false (c.day_of-one.ensures _ _ (bytes_read _ c.read-first.ensures) c.if-first-ne0.false) c.if-one.true
+pub returns-in_default : goal.returns-in_default
+returns-in_default c = c.refuse_comparison-in_default.ensures ∙ compare_first_held c.args.a.now c.args.b.now c.read-first.ensures c.if-first-ne0.false (rw c.in_default.is at c.day_of.ensures _ _ (bytes_read _ c.read-first.ensures) c.if-first-ne0.false)
 
 pub returns-then-second-ne0 : goal.returns-then-second-ne0
-returns-then-second-ne0 c = c.refuse_comparison-then-second-ne0.ensures ∙ compare_second c.args.a.now c.args.b.now c.read-first.ensures c.if-first-ne0.false (c.day_of-one.ensures _ _ (bytes_read _ c.read-first.ensures) c.if-first-ne0.false) c.if-one.false c.read-second.ensures c.if-second-ne0.true
+returns-then-second-ne0 c = c.refuse_comparison-then-second-ne0.ensures ∙ compare_second c.args.a.now c.args.b.now c.read-first.ensures c.if-first-ne0.false (rw c.in-Ok.is at c.day_of.ensures _ _ (bytes_read _ c.read-first.ensures) c.if-first-ne0.false) c.read-second.ensures c.if-second-ne0.true
 
-pub day_of-other-requires : goal.day_of-other-requires
-day_of-other-requires c = record { some = record { own = _; sheet = _; read = bytes_read _ c.read-second.ensures }; zero = c.if-second-ne0.false }
+pub day_of-requires-2 : goal.day_of-requires-2
+day_of-requires-2 c = record { some = record { own = _; sheet = _; read = bytes_read _ c.read-second.ensures }; zero = c.if-second-ne0.false }
 
-pub returns-then-other : goal.returns-then-other
-returns-then-other c = c.refuse_comparison-then-other.ensures ∙ compare_second_held c.args.a.now c.args.b.now c.read-first.ensures c.if-first-ne0.false (c.day_of-one.ensures _ _ (bytes_read _ c.read-first.ensures) c.if-first-ne0.false) c.if-one.false c.read-second.ensures c.if-second-ne0.false (c.day_of-other.ensures _ _ (bytes_read _ c.read-second.ensures) c.if-second-ne0.false) c.if-other.true
+pub returns-in_default-day_of : goal.returns-in_default-day_of
+returns-in_default-day_of c = c.refuse_comparison-in_default-day_of.ensures ∙ compare_second_held c.args.a.now c.args.b.now c.read-first.ensures c.if-first-ne0.false (rw c.in-Ok.is at c.day_of.ensures _ _ (bytes_read _ c.read-first.ensures) c.if-first-ne0.false) c.read-second.ensures c.if-second-ne0.false (rw c.in_default-day_of.is at c.day_of-2.ensures _ _ (bytes_read _ c.read-second.ensures) c.if-second-ne0.false)
 
 pub order_of_days-order-requires : goal.order_of_days-order-requires
-order_of_days-order-requires c = days_can (c.day_of-one.ensures _ _ (bytes_read _ c.read-first.ensures) c.if-first-ne0.false) (c.day_of-other.ensures _ _ (bytes_read _ c.read-second.ensures) c.if-second-ne0.false)
+order_of_days-order-requires c = days_can (rw c.in-Ok.is at c.day_of.ensures _ _ (bytes_read _ c.read-first.ensures) c.if-first-ne0.false) (rw c.in-Ok-day_of.is at c.day_of-2.ensures _ _ (bytes_read _ c.read-second.ensures) c.if-second-ne0.false)
 
 pub returns : goal.returns
-returns c = compare_days c.args.a.now c.args.b.now c.read-first.ensures c.if-first-ne0.false (c.day_of-one.ensures _ _ (bytes_read _ c.read-first.ensures) c.if-first-ne0.false) c.if-one.false c.read-second.ensures c.if-second-ne0.false (c.day_of-other.ensures _ _ (bytes_read _ c.read-second.ensures) c.if-second-ne0.false) c.if-other.false (c.order_number.ensures ∙ ap order_number (c.order_of_days-order.ensures ∙ days_order (c.day_of-one.ensures _ _ (bytes_read _ c.read-first.ensures) c.if-first-ne0.false) (c.day_of-other.ensures _ _ (bytes_read _ c.read-second.ensures) c.if-second-ne0.false) c.if-one.false c.if-other.false))
+returns c =
+    let one = rw c.in-Ok.is at c.day_of.ensures _ _ (bytes_read _ c.read-first.ensures) c.if-first-ne0.false in
+    let other = rw c.in-Ok-day_of.is at c.day_of-2.ensures _ _ (bytes_read _ c.read-second.ensures) c.if-second-ne0.false in
+    compare_days c.args.a.now c.args.b.now c.read-first.ensures c.if-first-ne0.false one c.read-second.ensures c.if-second-ne0.false other
+    (c.order_number.ensures ∙ ap order_number (c.order_of_days-order.ensures ∙ days_order one other))

@@ -23,7 +23,7 @@ pub day_of-day-requires : goal.day_of-day-requires
 day_of-day-requires c = record { some = c.requires; zero = c.if-sheet-ne0.false }
 
 pub put_words-requires : goal.put_words-requires
-put_words-requires c = (long_placing c.args.placing.now (tested_placing c.args.placing.now c.is_short_placing.ensures ∙ c.if-is_short_placing.false), fed_long (c.day_of-day.ensures _ _ c.requires.read c.if-sheet-ne0.false))
+put_words-requires c = (long_placing c.args.placing.now (tested_placing c.args.placing.now c.is_short_placing.ensures ∙ c.if-is_short_placing.false), fed_long (c.day_of-day.ensures _ _ c.requires.read c.if-sheet-ne0.false) c.fed_words-fed.ensures)
 
 pub returns : goal.returns
 returns c = λ own s h.
@@ -32,5 +32,5 @@ returns c = λ own s h.
     let short = short_placing c.args.placing.now in
     let l = tested_placing _ c.is_short_placing.ensures ∙ c.if-is_short_placing.false in (
       c.refuse-2.ensures ∙ (λ i. record { number = c.number_of.ensures i; line = 0; length = 0 }) ∙ unlisted_day h (alone s) short z l d,
-      placed_day h (alone s) short z l d c.args.placing.now _ (words_written d _ c.put_words.ensures),
+      placed_day h (alone s) short z l d c.args.placing.now _ (words_written d c.fed_words-fed.ensures _ c.put_words.ensures),
     )

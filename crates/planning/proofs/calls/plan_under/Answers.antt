@@ -49,7 +49,7 @@ day_under-day-requires c = (record { some = c.requires.0; zero = c.if-sheet-ne0.
 pub put_words-requires : goal.put_words-requires
 put_words-requires c = let z = c.if-sheet-ne0.false in
     let placing = c.args.placing.now in
-    (long_placing placing (tested_placing placing c.is_short_placing.ensures ∙ c.if-is_short_placing.false), fed_long (c.day_under-day.ensures _ _ c.requires.0.read z (c.requires.1 z).high (c.requires.1 z).are))
+    (long_placing placing (tested_placing placing c.is_short_placing.ensures ∙ c.if-is_short_placing.false), fed_long (c.day_under-day.ensures _ _ c.requires.0.read z (c.requires.1 z).high (c.requires.1 z).are) c.fed_words-fed.ensures)
 
 pub list_day-length-requires : goal.list_day-length-requires
 list_day-length-requires c = let z = c.if-sheet-ne0.false in
@@ -67,6 +67,6 @@ returns c = λ own s h high k.
     let l = listed_day h p short z f d (c.list_day-length.ensures p d) in
     record {
       listed = ((λ i. record { number = c.number_of.ensures i; line = 0; length = c.list_day-length.result }) ∙ l.0, l.1);
-      placed = placed_day h p short z f d placing _ (words_written d _ c.put_words.ensures);
-      busy = busy_day h p short z f d;
+      placed = placed_day h p short z f d placing _ (words_written d c.fed_words-fed.ensures _ c.put_words.ensures);
+      busy = c.busy_counts.ensures ∙ busy_day h p short z f d;
     }

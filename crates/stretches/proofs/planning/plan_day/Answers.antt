@@ -20,4 +20,4 @@ pub returns : goal.returns
 returns c = λ high h.
     let p = c.requires in
     day_planned c.args.blowers p.0
-    (windows_of_day p.0 c.mark_windows.ensures) (volumes_of_day p.0 c.volumes_of-volumes.ensures) h c.plan_words.ensures
+    (windows_of_day p.0 c.mark_windows.ensures) (volumes_of_day p.0 c.volumes_of-volumes.ensures) h _ c.plan_words.ensures

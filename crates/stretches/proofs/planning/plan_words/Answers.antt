@@ -7,11 +7,11 @@ use Rattle.stretches.proofs.planning.plan_words.Goals as goal
 pub begin-requires : goal.begin-requires
 begin-requires c = can_begin_words c.args.blowers c.requires refl
 
-pub choose_day-counts-requires : goal.choose_day-counts-requires
-choose_day-counts-requires c = can_choose_words c.args.blowers c.requires c.begin.ensures c.if-begin.true
+pub choose_day-plan-requires : goal.choose_day-plan-requires
+choose_day-plan-requires c = can_choose_words c.args.blowers c.requires c.begin.ensures c.if-begin.true
 
 pub returns-then-begin : goal.returns-then-begin
-returns-then-begin c = words_planned c.args.blowers c.requires c.begin.ensures c.if-begin.true c.choose_day-counts.ensures
+returns-then-begin c = words_planned c.args.blowers c.requires c.begin.ensures c.if-begin.true c.choose_day-plan.ensures
 
 pub marked_loads-forced-requires : goal.marked_loads-forced-requires
 marked_loads-forced-requires c = (some_short c.requires.day, c.begin.ensures.fed_long, c.begin.ensures.marks_long c.if-begin.false)
