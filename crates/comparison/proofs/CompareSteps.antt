@@ -9,13 +9,11 @@ use native.Mathlib.Omega.{arith}
 use lib.ListN.{length, get_or}
 use borrow.Author.Tests.{ne_eqb}
 use Rattle.common.specs.Buffers.{padded}
-use Rattle.common.specs.BufferLaws.{length_padded}
 use Rattle.line.specs.Layout.{fields}
 use Rattle.checks.specs.declared.Refusal.{Refusal}
 use Rattle.checks.specs.Limits.{max_rations}
 use Rattle.checks.specs.Refusals.{no_placing}
 use Rattle.checks.specs.Sheet.{Sheet, sheet_of, numbers_of}
-use Rattle.checks.specs.NumbersLaws.{length_numbers_of}
 use Rattle.checks.specs.Checks.{fault, first_refusal, faults}
 use Rattle.sheet.specs.declared.Reading.{Reading}
 use Rattle.sheet.specs.Calls.{reading_of, accepted}
@@ -26,14 +24,14 @@ use Rattle.plan_lines.specs.Inputs.{tank_at}
 use Rattle.plan_lines.specs.SetBits.{set_bits_past}
 use Rattle.plan_order.specs.declared.Order.TheVariants.{No}
 use Rattle.plan_order.specs.Order.{order_number, order_of_numbers, then_by, order_of_slots, tanks_in, fed_tanks, order_of_plans}
-use Rattle.plan_order.specs.Clauses.{tanks_of_word, tanks_of_words, CanOrder}
+use Rattle.plan_order.specs.Clauses.{tanks_of_word, tanks_of_words}
 use Rattle.plan_order.proofs.WordLaws.{tanks_in_word}
 use Rattle.planning.specs.Problem.{Problem, alone, can_be_planned, feedings_of, plan_with, plan_for}
 use Rattle.planning.specs.Planning.{held_faults}
 use Rattle.planning.specs.Clauses.{DayOf}
 use Rattle.planning.proofs.ListLaws.{map_range_cong}
 use Rattle.planning.proofs.InputLaws.{placing_of_holds, tanks_of_numbers_of}
-use Rattle.planning.proofs.DayLaws.{day_slots, holds, plan_fed_long}
+use Rattle.planning.proofs.DayLaws.{holds, plan_fed_long}
 use Rattle.comparison.specs.Comparison.{compare_refusal, order_of, compared_of}
 
 -- ---- two days
@@ -65,21 +63,6 @@ day_tanks {p} {r} {d} h =
 slots_of_lem : {p : Problem} {r : Reading} {d : Result DayPlan HeldDay} → DayOf p r d → r.slots ≡ (plan_for p).slots
 unfolding accepted plan_with
 slots_of_lem h = ap (λ y. y.slots) h.read
-
-numbers_long : {p : Problem} {r : Reading} {d : Result DayPlan HeldDay} → DayOf p r d → length r.numbers ≡ fields * max_rations
-unfolding accepted
-numbers_long {p} h =
-    ap (λ y. length y.numbers) h.read
-    ∙ length_padded (fields * max_rations) (numbers_of p.sheet.jobs) (omega (arith, length_numbers_of p.sheet.jobs, h.in_range.values.head.rations))
-
-pub days_can : {p q : Problem} {r r' : Reading} {d d' : DayPlan} → DayOf p r (Ok d) → DayOf q r' (Ok d') → CanOrder r.slots r.numbers d.fed r'.numbers d'.fed
-days_can h k =
-    record {
-      day = day_slots h;
-      numbers_long = record { first = numbers_long h; second = numbers_long k };
-      fed_long = plan_fed_long h;
-      other_long = plan_fed_long k;
-    }
 
 pub days_order : {p q : Problem} {r r' : Reading} {d d' : DayPlan} → DayOf p r (Ok d) → DayOf q r' (Ok d')
     → then_by (order_of_numbers r.slots r'.slots) (order_of_slots (tanks_of_words r.slots r.numbers d.fed) (tanks_of_words r'.slots r'.numbers d'.fed))

@@ -6,7 +6,7 @@ ghost use Rattle.comparison.specs.Comparison.{compared_of};
 
 use crate::Compared;
 use checks::refusals::NO_PLACING;
-use plan_order::{Order, order_number, order_of_days};
+use plan_order::{DayFed, Order, order_of_days};
 use planning::day_of;
 
 // A refusal's answer: no.
@@ -16,7 +16,7 @@ fn refuse_comparison(number: u32, line: u32) -> Compared
     Compared {
         number,
         line,
-        order: order_number(Order::No),
+        order: u32::from(Order::No),
     }
 }
 
@@ -40,16 +40,20 @@ pub fn compare(a: &[u8], b: &[u8]) -> Compared
         return refuse_comparison(NO_PLACING, 0);
     };
     let order = order_of_days(
-        first.slots,
-        &first.numbers,
-        &one.fed,
-        second.slots,
-        &second.numbers,
-        &other.fed,
+        &DayFed {
+            slots: first.slots,
+            numbers: &first.numbers,
+            fed: &one.fed,
+        },
+        &DayFed {
+            slots: second.slots,
+            numbers: &second.numbers,
+            fed: &other.fed,
+        },
     );
     Compared {
         number: 0,
         line: 0,
-        order: order_number(order),
+        order: u32::from(order),
     }
 }

@@ -1,7 +1,10 @@
 -- Laws of the order of numbers, lists and plans. Each is proved once for whatever is ordered. Assumes nothing.
 use Rattle.std.specs.Prelude.{◌≡◌, ◌⊎◌, ◌↔◌, true, false}
+use Rattle.std.specs.declared.cmp.Ordering.{Ordering}
+use Rattle.std.specs.declared.cmp.Ordering.TheVariants.{Less, Equal, Greater}
+use Rattle.std.specs.Ordering.{nat_cmp, is_ne}
 use Rattle.std.proofs.Math.Path.{refl, ap, ap₂}
-use Rattle.std.proofs.Common.{sym, ◌∙◌, inl, inr, true≢false, arith, lt-ltb, le-ltb}
+use Rattle.std.proofs.Common.{sym, ◌∙◌, inl, inr, true≢false, arith, lt-ltb, le-ltb, eq-eqb, ne_eqb}
 use Rattle.std.proofs.lemmas.Bool.{false≢true}
 use mathlib.Core.List.{List, [], ◌∷◌, map}
 use Prim.Native.Nat.{ℕ, zero, suc, ◌+◌, ◌≤◌, ◌<◌}
@@ -12,7 +15,7 @@ use Rattle.plan_lines.specs.Lines.{Plan}
 use Rattle.plan_order.specs.declared.Order.{Order}
 use Rattle.plan_order.specs.declared.Order.TheVariants.{No, Same, Before, After}
 use Rattle.plan_order.specs.Order.{order_number, order_of_numbers, then_by, order_of_lists, order_of_slots, fed_tanks}
-use Rattle.plan_order.specs.Clauses.{differs}
+use Rattle.plan_order.specs.Clauses.{as_order, differs}
 use Rattle.plan_order.specs.TotalOrder.{ExactlyOne, TotalOrder}
 
 -- The first that differs decides ------------------------------------------------------
@@ -118,6 +121,20 @@ numbers_ordered =
     exchanged x y (inl l) = numbers_after l ∙ ap turn (sym (numbers_before l))
     exchanged x y (inr (inl l)) = numbers_same (sym l) ∙ ap turn (sym (numbers_same l))
     exchanged x y (inr (inr l)) = numbers_before l ∙ ap turn (sym (numbers_after l))
+
+-- what std's comparison of two numbers answers
+pub compared : (x y : ℕ) → as_order (nat_cmp x y) ≡ order_of_numbers x y
+compared x y = go (lt_or_eq_or_gt x y)
+  where
+    go : Cases x y → as_order (nat_cmp x y) ≡ order_of_numbers x y
+    go (inl l) = rw (lt-ltb x y l) (sym (numbers_before l))
+    go (inr (inl l)) = rw (le-ltb x y (omega arith), eq-eqb x y l) (sym (numbers_same l))
+    go (inr (inr l)) = rw (le-ltb x y (omega arith), ne_eqb x y (λ e. omega arith)) (sym (numbers_after l))
+
+pub ordering_differs : (x : Ordering) → differs (as_order x) ≡ is_ne x
+ordering_differs Less = refl
+ordering_differs Equal = refl
+ordering_differs Greater = refl
 
 -- Lists -------------------------------------------------------------------------------
 

@@ -1,40 +1,28 @@
 // The order of two days: the shorter one first, then by the first slot that differs.
-ghost use Rattle.std.specs.Prelude.{◌≡◌};
+ghost use Rattle.std.specs.Prelude.{◌≡◌, ◌≤◌};
+ghost use Rattle.checks.specs.Limits.{max_slots};
 ghost use Rattle.plan_order.specs.Order.{then_by, order_of_numbers, order_of_slots};
-ghost use Rattle.plan_order.specs.Clauses.{CanOrder, tanks_of_words};
+ghost use Rattle.plan_order.specs.Clauses.{tanks_of_words};
 
-use crate::Order;
-use crate::numbers::{differs, order_of_numbers};
 use crate::slots::order_in_slot;
+use crate::{DayFed, Order};
 
-// The days of two plans, each given by its slots, its rations' numbers and its feedings: bit j of word t says that
-// ration j + 1 is fed in slot t + 1. No slot is looked at after the first that differs.
-pub fn order_of_days(
-    slots: u32,
-    numbers: &[u32; 256],
-    fed: &[u64; 96],
-    other_slots: u32,
-    others: &[u32; 256],
-    other_fed: &[u64; 96],
-) -> Order
-    requires { CanOrder slots numbers.now fed.now others.now other_fed.now }
-    ensures { result ≡ then_by (order_of_numbers slots other_slots)
-        (order_of_slots (tanks_of_words slots numbers.now fed.now) (tanks_of_words other_slots others.now other_fed.now)) }
+// The days of two plans. No slot is looked at after the first that differs.
+pub fn order_of_days(one: &DayFed, other: &DayFed) -> Order
+    requires { one.now.slots ≤ max_slots }
+    ensures { result ≡ then_by (order_of_numbers one.now.slots other.now.slots)
+        (order_of_slots (tanks_of_words one.now.slots one.now.numbers.now one.now.fed.now)
+        (tanks_of_words other.now.slots other.now.numbers.now other.now.fed.now)) }
 {
-    let by_slots = order_of_numbers(slots, other_slots);
-    if differs(by_slots) {
-        return by_slots;
+    let by_slots = one.slots.cmp(&other.slots);
+    if by_slots.is_ne() {
+        return Order::from(by_slots);
     }
-    let mut t = 0;
-    while t < slots {
-        let at = t as usize;
-        let word = fed[at];
-        let other = other_fed[at];
-        let order = order_in_slot(word, numbers, other, others);
-        if differs(order) {
-            return order;
+    for t in 0..one.slots as usize {
+        let by_tanks = order_in_slot(one.fed[t], one.numbers, other.fed[t], other.numbers);
+        if by_tanks.is_ne() {
+            return Order::from(by_tanks);
         }
-        t += 1;
     }
     Order::Same
 }

@@ -5,43 +5,41 @@
 ghost use Rattle.std.specs.Prelude.{◌≡◌, ◌<◌};
 ghost use Rattle.plan_lines.specs.Inputs.{tank_at};
 ghost use Rattle.plan_order.specs.Order.{order_of_numbers, order_of_tanks};
-ghost use Rattle.plan_order.specs.Clauses.{tanks_of_word, BothNumbers};
+ghost use Rattle.plan_order.specs.Clauses.{as_order, tanks_of_word};
 
-use crate::Order;
-use crate::numbers::{differs, order_of_numbers};
+use std::cmp::Ordering;
 
 // Two tanks, each the first of its ration's four numbers.
-fn order_of_rations(i: u32, numbers: &[u32; 256], j: u32, others: &[u32; 256]) -> Order
-    requires { BothNumbers numbers.now others.now × (i < 64) × (j < 64) }
-    ensures { result ≡ order_of_numbers (tank_at numbers.now i) (tank_at others.now j) }
+fn order_of_rations(i: u32, numbers: &[u32; 256], j: u32, others: &[u32; 256]) -> Ordering
+    requires { (i < 64) × (j < 64) }
+    ensures { as_order result ≡ order_of_numbers (tank_at numbers.now i) (tank_at others.now j) }
 {
     let x = numbers[4 * (i as usize)];
     let y = others[4 * (j as usize)];
-    order_of_numbers(x, y)
+    x.cmp(&y)
 }
 
 // The order of the tanks fed by one word and of those fed by another. No tank is looked at after the first that differs.
-pub fn order_in_slot(word: u64, numbers: &[u32; 256], other: u64, others: &[u32; 256]) -> Order
-    requires { BothNumbers numbers.now others.now }
-    ensures { result ≡ order_of_tanks (tanks_of_word numbers.now word) (tanks_of_word others.now other) }
+pub fn order_in_slot(word: u64, numbers: &[u32; 256], other: u64, others: &[u32; 256]) -> Ordering
+    ensures { as_order result ≡ order_of_tanks (tanks_of_word numbers.now word) (tanks_of_word others.now other) }
 {
     let mut rest = word;
     let mut other_rest = other;
     while rest != 0 {
         if other_rest == 0 {
-            return Order::After;
+            return Ordering::Greater;
         }
         let i = bits::lowest(rest);
         let j = bits::lowest(other_rest);
         let order = order_of_rations(i, numbers, j, others);
-        if differs(order) {
+        if order.is_ne() {
             return order;
         }
         rest = bits::drop_bit(rest, i);
         other_rest = bits::drop_bit(other_rest, j);
     }
     if other_rest != 0 {
-        return Order::Before;
+        return Ordering::Less;
     }
-    Order::Same
+    Ordering::Equal
 }

@@ -1,8 +1,10 @@
 -- `comparison::comparing::compare` meets its contract. Assumes nothing.
 use mathlib.Core.Path.{ap, ◌∙◌}
+use Rattle.std.proofs.Common.{arith}
 use Rattle.sheet.proofs.OwnCheckLaws.{bytes_read}
+use Rattle.planning.proofs.DayLaws.{day_slots}
 use Rattle.plan_order.specs.Order.{order_number}
-use Rattle.comparison.proofs.CompareSteps.{compare_first, compare_first_held, compare_second, compare_second_held, compare_days, days_can, days_order}
+use Rattle.comparison.proofs.CompareSteps.{compare_first, compare_first_held, compare_second, compare_second_held, compare_days, days_order}
 use Rattle.comparison.proofs.comparing.compare.Goals as goal
 
 pub returns-then-first-ne0 : goal.returns-then-first-ne0
@@ -24,11 +26,11 @@ pub returns-in_default-day_of : goal.returns-in_default-day_of
 returns-in_default-day_of c = c.refuse_comparison-in_default-day_of.ensures ∙ compare_second_held c.args.a.now c.args.b.now c.read-first.ensures c.if-first-ne0.false (rw c.in-Ok.is at c.day_of.ensures _ _ (bytes_read _ c.read-first.ensures) c.if-first-ne0.false) c.read-second.ensures c.if-second-ne0.false (rw c.in_default-day_of.is at c.day_of-2.ensures _ _ (bytes_read _ c.read-second.ensures) c.if-second-ne0.false)
 
 pub order_of_days-order-requires : goal.order_of_days-order-requires
-order_of_days-order-requires c = days_can (rw c.in-Ok.is at c.day_of.ensures _ _ (bytes_read _ c.read-first.ensures) c.if-first-ne0.false) (rw c.in-Ok-day_of.is at c.day_of-2.ensures _ _ (bytes_read _ c.read-second.ensures) c.if-second-ne0.false)
+order_of_days-order-requires c = omega (arith, day_slots (rw c.in-Ok.is at c.day_of.ensures _ _ (bytes_read _ c.read-first.ensures) c.if-first-ne0.false))
 
 pub returns : goal.returns
 returns c =
     let one = rw c.in-Ok.is at c.day_of.ensures _ _ (bytes_read _ c.read-first.ensures) c.if-first-ne0.false in
     let other = rw c.in-Ok-day_of.is at c.day_of-2.ensures _ _ (bytes_read _ c.read-second.ensures) c.if-second-ne0.false in
     compare_days c.args.a.now c.args.b.now c.read-first.ensures c.if-first-ne0.false one c.read-second.ensures c.if-second-ne0.false other
-    (c.order_number.ensures ∙ ap order_number (c.order_of_days-order.ensures ∙ days_order one other))
+    (c.from.ensures ∙ ap order_number (c.order_of_days-order.ensures ∙ days_order one other))

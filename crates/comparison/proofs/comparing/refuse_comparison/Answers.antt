@@ -2,4 +2,4 @@
 use Rattle.comparison.proofs.comparing.refuse_comparison.Goals as goal
 
 pub returns : goal.returns
-returns c = λ i. record { number = c.args.number; line = c.args.line; order = c.order_number.ensures i }
+returns c = λ i. record { number = c.args.number; line = c.args.line; order = c.from.ensures i }
