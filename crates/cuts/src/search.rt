@@ -12,7 +12,7 @@ ghost use Rattle.cuts.specs.Clauses.{CanAskShares, ShareAnswered, ReadPossible, 
 
 use crate::cutting;
 use densities::SCALE;
-use placing::{begin, held, windows};
+use placing::{Words, held, windows};
 use sheet::Reading;
 
 const MAX_SHARE: u32 = 100;
@@ -28,25 +28,17 @@ struct Ends {
 }
 
 // Whether the sheet cut to a share has a sound placing; where it has none, the marks are left on slots that show why.
-// `highs` has the sheet's blowers in each slot. `fed` and `rest` hold some placing of its rations with the volumes
+// The words have the sheet's blowers for the high of each slot, and hold some placing of its rations with the volumes
 // `placed`, before and after; which these are is for the cost, and not promised.
-fn can_share(
-    share: u32,
-    sheet: Reading,
-    highs: &[u8; 96],
-    placed: &mut [u8; 64],
-    fed: &mut [u64; 96],
-    rest: &mut [u64; 96],
-    marks: &mut [u8; 96],
-) -> bool
-    requires { CanAskShares sheet highs.now placed.old fed.old rest.old × (share ≤ max_share) }
-    ensures share_answered { ShareAnswered share sheet result marks.new }
-    ensures can_ask_shares { CanAskShares sheet highs.now placed.new fed.new rest.new }
+fn can_share(share: u32, sheet: Reading, placed: &mut [u8; 64], words: &mut Words) -> bool
+    requires { CanAskShares sheet words.old.high placed.old words.old.fed words.old.rest × (share ≤ max_share) }
+    ensures share_answered { ShareAnswered share sheet result words.new.seen }
+    ensures can_ask_shares { CanAskShares sheet words.new.high placed.new words.new.fed words.new.rest }
 {
     let cut = cutting::cut_sheet(share, sheet);
     let numbers = cut.numbers;
     let volumes = windows::volumes_of(cut.rations as usize, &numbers);
-    let can = begin::begin_again(placed, &volumes, highs, fed, rest, marks);
+    let can = words.begin_again(placed, &volumes);
     *placed = volumes;
     can
 }
@@ -134,24 +126,21 @@ fn narrow(
     high: u32,
     reach: u32,
     sheet: Reading,
-    highs: &[u8; 96],
     placed: &mut [u8; 64],
-    fed: &mut [u64; 96],
-    rest: &mut [u64; 96],
+    words: &mut Words,
 ) -> Ends
-    requires { CanAskShares sheet highs.now placed.old fed.old rest.old × ReadBetween sheet low high × (low + 1 < high) × CanHalve reach low high }
+    requires { CanAskShares sheet words.old.high placed.old words.old.fed words.old.rest × ReadBetween sheet low high × (low + 1 < high) × CanHalve reach low high }
     ensures read_between { ReadBetween sheet result.low result.high × (result.high - result.low ≤ reach) }
-    ensures can_ask_shares { CanAskShares sheet highs.now placed.new fed.new rest.new }
+    ensures can_ask_shares { CanAskShares sheet words.new.high placed.new words.new.fed words.new.rest }
 {
     let share = asked(low, high, reach);
-    let mut marks = [0u8; 96];
-    if can_share(share, sheet, highs, placed, fed, rest, &mut marks) {
+    if can_share(share, sheet, placed, words) {
         return Ends { low: share, high };
     }
     let slots = sheet.slots as usize;
     Ends {
         low,
-        high: least_deficient(low, share, sheet, &marks[0..slots]),
+        high: least_deficient(low, share, sheet, &words.seen[0..slots]),
     }
 }
 
@@ -161,29 +150,18 @@ pub fn greatest_share(sheet: Reading) -> u32
     ensures { ShareFound sheet result }
 {
     let numbers = sheet.numbers;
-    let mut fed = [0u64; 96];
-    let mut rest = [0u64; 96];
+    let mut words = Words::new();
     let mut placed = [0u8; 64];
-    windows::mark_windows(&mut rest, sheet.rations as usize, &numbers);
-    let mut highs = [0u8; 96];
+    windows::mark_windows(&mut words.rest, sheet.rations as usize, &numbers);
     let slots = sheet.slots as usize;
-    held::set_highs(&mut highs, slots, sheet.blowers as u8);
+    held::set_highs(&mut words.high, slots, sheet.blowers as u8);
     let all = [1u8; 96];
     let mut low = spread_share(sheet);
     let mut high = least_deficient(low, MAX_SHARE + 1, sheet, &all[0..slots]);
     let mut left = QUESTIONS;
     while low + 1 < high {
         left -= 1;
-        let ends = narrow(
-            low,
-            high,
-            1 << left,
-            sheet,
-            &highs,
-            &mut placed,
-            &mut fed,
-            &mut rest,
-        );
+        let ends = narrow(low, high, 1 << left, sheet, &mut placed, &mut words);
         low = ends.low;
         high = ends.high;
     }

@@ -4,7 +4,10 @@ use Rattle.std.proofs.Common.{sym, ◌∙◌, subst, arith}
 use Rattle.checks.specs.Limits.{max_slots}
 use Rattle.common.specs.Buffers.{padded}
 use Rattle.schedules.specs.Schedules.{Demand, feasible}
-use Rattle.placing.specs.Represents.{CanBegin, Begun}
+use Rattle.placing.specs.declared.Words.{Words}
+use Rattle.placing.specs.Represents.{CanBegin}
+use Rattle.placing.specs.WordCalls.{BegunIn}
+use Rattle.placing.specs.WordCallLaws.{begun_held}
 use Rattle.placing.specs.Rations.{Rations, demands_from}
 use Rattle.placing.specs.Words.{WindowWords, VolumeBytes}
 use Rattle.placing.specs.FeasibilitySteps.{demand_words, ration_words, can_begin}
@@ -24,29 +27,29 @@ module _ {slots rations : ℕ} (m : ℕ) {numbers W N H : List ℕ} (r : Rations
   pub day_begin : {C : List ℕ} → length C ≡ max_slots → CanBegin W N H C
   day_begin c = can_begin (ration_words r w v) (length_full slots m r.short h) c
 
-  module _ {q : Bool} {F R C S : List ℕ} (b : Begun q W N H F R C S) where
+  module _ {q : Bool} {x : Words} (b : BegunIn q W N H x) where
     abbrev ds : List Demand
     ds = demands_from slots rations numbers
 
     answer : q ≡ feasible slots ds (replicate slots 0) (replicate slots m)
-    answer = b.answer slots ds (replicate slots m) (demand_words r w v) (full_words slots m r.short h)
+    answer = b.begun.answer slots ds (replicate slots m) (demand_words r w v) (full_words slots m r.short h)
 
-    under : q ≡ true → Under slots ds (day_bounds slots m) F R H C
-    under e = b.yes e slots ds (replicate slots m) (demand_words r w v) (full_words slots m r.short h)
+    under : q ≡ true → Under slots ds (day_bounds slots m) x
+    under e = begun_held b e (demand_words r w v) (full_words slots m r.short h)
 
-    pub can_list : {out : List ℕ} → q ≡ true → causes_bytes ≤ length out → CanList slots (record { length = 0; cut = false }) F R H C out
+    pub can_list : {out : List ℕ} → q ≡ true → causes_bytes ≤ length out → CanList slots (record { length = 0; cut = false }) x out
     can_list e room =
         record {
           day = record { demands = ds; bounds = day_bounds slots m; under = under e };
           fits = record { day = r.short; room = room; within = omega arith };
         }
 
-    pub day_listed : {out out' : List ℕ} {x : Extent} → q ≡ true → AllListed x slots m F R H C out out'
-        → DayCauses (Some x) slots m ds (replicate slots m) out out'
-    day_listed {out} {out'} {x} e a = (
+    pub day_listed : {out out' : List ℕ} {listing : Extent} → q ≡ true → AllListed listing slots m x out out'
+        → DayCauses (Some listing) slots m ds (replicate slots m) out out'
+    day_listed {out} {out'} {listing} e a = (
       sym answer ∙ e,
-      subst (λ es. Listing es out out' x)
-          (sym (endings_settled (under e).windows m (under_possible (under e)))) (a ds (day_bounds slots m) (under e)),
+      subst (λ es. Listing es out out' listing)
+          (sym (endings_settled (under e).represents.windows m (under_possible (under e)))) (a ds (day_bounds slots m) (under e)),
     )
 
     pub day_held : {out : List ℕ} → q ≡ false → DayCauses None slots m ds (replicate slots m) out out

@@ -6,7 +6,7 @@ ghost use Rattle.endings.specs.DayCauses.{DayCauses};
 
 use crate::settling;
 use cause_lines::Extent;
-use placing::{begin, held, windows};
+use placing::{Words, held, windows};
 
 // Lists the causes of a day of so many slots and blowers from the front of out on; None of a held day, for which nothing
 // is written.
@@ -21,21 +21,14 @@ pub fn list_day(
     ensures { DayCauses result slots blowers (demands_from slots rations numbers.now) (replicate slots blowers)
         out.old out.new }
 {
-    let mut words = [0u64; 96];
-    windows::mark_windows(&mut words, rations, numbers);
+    let mut free = [0u64; 96];
+    windows::mark_windows(&mut free, rations, numbers);
     let volumes = windows::volumes_of(rations, numbers);
     let mut high = [0u8; 96];
     held::set_highs(&mut high, slots, blowers);
-    let mut fed = [0u64; 96];
-    let mut rest = [0u64; 96];
-    let mut spare = [0u8; 96];
-    let mut seen = [0u8; 96];
-    if begin::begin(
-        &words, &volumes, &high, &mut fed, &mut rest, &mut spare, &mut seen,
-    ) {
-        let listed = settling::list_stretches(
-            &mut fed, &mut rest, &mut high, &mut spare, &mut seen, out, slots, blowers,
-        );
+    let mut words = Words::new();
+    if words.begin(&free, &volumes, &high) {
+        let listed = settling::list_stretches(&mut words, out, slots, blowers);
         return Some(listed);
     }
     None

@@ -1,7 +1,7 @@
 -- A cause as code has it, the enum `Cause`: its number and its slots as request 105 gives them, for each case; and what
 -- the functions that find it ensure. F and R are the grid, H the highs and C the spares, as in Represents.antt.
 -- Definitions only. Assumes nothing.
-use Rattle.std.specs.Prelude.{◌≡◌, Bool, true, false, cond, List, ℕ, suc, ◌+◌, ◌-◌, ◌<◌, eqb, ltb}
+use Rattle.std.specs.Prelude.{◌≡◌, Bool, true, false, cond, List, ℕ, suc, ◌+◌, ◌-◌, ◌<◌, eqb, ltb, Result, Ok, Err}
 use Rattle.common.specs.Bits.{bit}
 use Rattle.schedules.specs.Slots.{Slots}
 use Rattle.schedules.specs.Schedules.{Demand, feasible}
@@ -9,8 +9,6 @@ use Rattle.schedules.specs.Causes.{Obstacle, obstacle}
 use Rattle.schedules.specs.Tabulate.{tab}
 use Rattle.placing.specs.declared.Cause.{Cause}
 use Rattle.placing.specs.declared.Cause.TheVariants.{LowAboveHigh, Shortfall, Excess}
-use Rattle.placing.specs.declared.Answer.{Answer}
-use Rattle.placing.specs.declared.Answer.TheVariants.{Yes, No}
 use Rattle.placing.specs.Represents.{Represents, lowered, raised, Idled, Busied, marks_of}
 
 -- slot t + 1 is in the set of two words: bit t of the first, or bit t − 64 of the second
@@ -58,20 +56,20 @@ BusyCaused r F R H C t k =
     (slots : ℕ) (ds : List Demand) (low high : List ℕ) → Represents slots ds low high F R H C → t < slots
     → feasible slots ds (raised low t k) high ≡ false → obstacle_of slots r ≡ obstacle slots ds (raised low t k) high
 
--- what an answer says, and what holds of the cause, if it is a no
-abbrev pub is_yes : Answer → Bool
-is_yes Yes = true
-is_yes (No c) = false
+-- what an answer says: the bound is kept from now on; and what holds of the cause against it, where it is not
+abbrev pub is_yes : Result (Unit {0}) Cause → Bool
+is_yes (Ok _) = true
+is_yes (Err c) = false
 
-abbrev pub WithCause : Answer → (Cause → Type 0) → Type 0
-WithCause Yes P = Unit {0}
-WithCause (No c) P = P c
+abbrev pub WithCause : Result (Unit {0}) Cause → (Cause → Type 0) → Type 0
+WithCause (Ok _) P = Unit {0}
+WithCause (Err c) P = P c
 
--- `idle_or_cause` and `busy_or_cause` answer as `idle` and `busy`, and a no says why
-pub record IdleAnswered (r : Answer) (F R H C F' R' H' : List ℕ) (t k : ℕ) : Type 0 where
+-- `idle_or_cause` and `busy_or_cause` answer as `idle` and `busy`, and a refusal says why
+pub record IdleAnswered (r : Result (Unit {0}) Cause) (F R H C F' R' H' : List ℕ) (t k : ℕ) : Type 0 where
   pub idled : Idled (is_yes r) F R H C F' R' H' t k
   pub why : WithCause r (λ c. IdleCaused c F R H C t k)
 
-pub record BusyAnswered (r : Answer) (F R H C F' R' C' : List ℕ) (t k : ℕ) : Type 0 where
+pub record BusyAnswered (r : Result (Unit {0}) Cause) (F R H C F' R' C' : List ℕ) (t k : ℕ) : Type 0 where
   pub busied : Busied (is_yes r) F R H C F' R' C' t k
   pub why : WithCause r (λ c. BusyCaused c F R H C t k)

@@ -1,6 +1,6 @@
 -- What the searches say of a cause, said of the demands: the answers of `idle_or_cause` and `busy_or_cause`. Assumes
 -- nothing.
-use Rattle.std.specs.Prelude.{◌≡◌, refl, ◌≢◌, Bool, true, false, cond, List, ℕ, suc, ◌+◌, ◌-◌, ◌^◌, ◌≤◌, ◌<◌, min, max, eqb, ltb, length, get_or, set}
+use Rattle.std.specs.Prelude.{◌≡◌, refl, ◌≢◌, Bool, true, false, cond, List, ℕ, suc, ◌+◌, ◌-◌, ◌^◌, ◌≤◌, ◌<◌, min, max, eqb, ltb, length, get_or, set, Ok, Err}
 use Rattle.std.proofs.Math.Path.{sym}
 use Rattle.std.proofs.Common.{ap, ◌∙◌, subst, add-one, arith, length-set, get_or-set_same, get_or-set_other, eq-eqb, ne_eqb, ltb-true, ltb-false, lt-ltb, le-ltb, below_more}
 use Rattle.std.proofs.lemmas.Bool.{false≢true}
@@ -26,7 +26,6 @@ use Rattle.schedules.specs.Certificates.{load_of}
 use Rattle.schedules.proofs.Certificates.{places_feasible}
 use Rattle.placing.specs.declared.Cause.{Cause}
 use Rattle.placing.specs.declared.Cause.TheVariants.{LowAboveHigh, Shortfall, Excess}
-use Rattle.placing.specs.declared.Answer.TheVariants.{Yes, No}
 use Rattle.placing.specs.CauseCalls.{in_words, in_cause, obstacle_of, MarkWord, OfMarks, BusyCaused, IdleAnswered, BusyAnswered}
 use Rattle.placing.specs.Represents.{Represents, Ready, lowered, raised, Idled, Busied, marks_of}
 use Rattle.placing.specs.StepLaws.{put_set, low_width, represents_feasible, idled_low, idled_high, idled_search, busied_high, busied_low, busied_search}
@@ -125,7 +124,7 @@ module _ {slots : ℕ} (ds : List Demand) (low high : List ℕ) (l : length low 
 
 module _ {F R H C : List ℕ} {t k : ℕ} (p : 1 ≤ k) where
   -- the low is k or more
-  pub idle_low_cause : at C t + k ≤ width F R t → IdleAnswered (No (LowAboveHigh (t + 1))) F R H C F R H t k
+  pub idle_low_cause : at C t + k ≤ width F R t → IdleAnswered (Err (LowAboveHigh (t + 1))) F R H C F R H t k
   idle_low_cause g =
       record {
         idled = idled_low p g;
@@ -141,12 +140,12 @@ module _ {F R H C : List ℕ} {t k : ℕ} (p : 1 ≤ k) where
       }
 
   -- the high is below k already
-  pub idle_high_yes : at H t < k → IdleAnswered Yes F R H C F R H t k
+  pub idle_high_yes : at H t < k → IdleAnswered (Ok tt) F R H C F R H t k
   idle_high_yes h = record { idled = idled_high p h; why = tt }
 
   module _ (g : width F R t < at C t + k) (hi : k ≤ at H t) {r : Bool} {F' R' H' S' : List ℕ} (v : Lowered r F R H F' R' H' S' t (k - 1)) where
     -- the high is set
-    pub idle_search_yes : r ≡ true → IdleAnswered Yes F R H C F' R' H' t k
+    pub idle_search_yes : r ≡ true → IdleAnswered (Ok tt) F R H C F' R' H' t k
     idle_search_yes x = record { idled = subst (λ y. Idled y F R H C F' R' H' t k) x (idled_search p g hi v); why = tt }
 
     -- it can't be
@@ -189,7 +188,7 @@ module _ {F R H C : List ℕ} {t k : ℕ} (p : 1 ≤ k) where
             sym (critical_as s.windows (lowered high t k) long
             (critical_highs (λ u n. as_list u) (over_critical s.state m (marked_held v x) fails)))
 
-      pub idle_search_no : {c : Cause} → OfMarks c 1 S' → IdleAnswered (No c) F R H C F' R' H' t k
+      pub idle_search_no : {c : Cause} → OfMarks c 1 S' → IdleAnswered (Err c) F R H C F' R' H' t k
       idle_search_no o =
           record {
             idled = subst (λ y. Idled y F R H C F' R' H' t k) x (idled_search p g hi v);
@@ -202,7 +201,7 @@ module _ {F R H C : List ℕ} {t k : ℕ} (p : 1 ≤ k) where
 
 module _ {F R H C : List ℕ} {t k : ℕ} where
   -- the high is below k
-  pub busy_high_cause : at H t < k → BusyAnswered (No (LowAboveHigh (t + 1))) F R H C F R C t k
+  pub busy_high_cause : at H t < k → BusyAnswered (Err (LowAboveHigh (t + 1))) F R H C F R C t k
   busy_high_cause g =
       record {
         busied = busied_high g;
@@ -218,7 +217,7 @@ module _ {F R H C : List ℕ} {t k : ℕ} where
       }
 
   -- the low is k or more already
-  pub busy_low_yes : at C t + k ≤ width F R t → BusyAnswered Yes F R H C F R C t k
+  pub busy_low_yes : at C t + k ≤ width F R t → BusyAnswered (Ok tt) F R H C F R C t k
   busy_low_yes h = record { busied = busied_low h; why = tt }
 
   module _ (hi : k ≤ at H t) (lo : width F R t < at C t + k) where
@@ -266,35 +265,32 @@ module _ {F R H C : List ℕ} {t k : ℕ} where
         busy_marks =
             sym (excess_as s.windows (raised low t k) long_b (excess_lows (λ u n. as_list_b u) (marked_excess s.state m low_le le_high w fails_b)))
 
-      marked_cause : {c : Cause} → OfMarks c 2 S' → BusyCaused c F R H C t k
+      pub marked_cause : {c : Cause} → OfMarks c 2 S' → BusyCaused c F R H C t k
       marked_cause o slots ds low high s m e =
           marks_obstacle s.state.places.day.short o ∙ ap (λ q. record { number = 2; set = q }) (busy_marks s m e)
           ∙ sym (excess_obstacle s.windows low high s.lows s.highs (represents_feasible s) (raised low t k) (long_b s m e) e (ordered_b s m e))
 
       -- fewer than k rations have the slot in their windows
-      pub busy_narrow_no : Ready F R H C t → width F R t < k → {c : Cause} → OfMarks c 2 S' → BusyAnswered (No c) F R H C F' R' C' t k
-      busy_narrow_no ready n o =
+      pub busy_narrow_no : Ready F R H C t → width F R t < k → Busied false F R H C F' R' C' t k
+      busy_narrow_no ready n =
           let a = busied_search hi lo (raised_narrow ready.rest {S = S'} n) in
           record {
-            busied =
-                record {
-                  answer = a.answer;
-                  yes = λ f. absurd (false≢true f);
-                  no = λ f slots ds low high s m.
-                      record { windows = s.windows; lows = s.lows; highs = s.highs; state = kept_b s m (sym (a.answer slots ds low high s m)) };
-                };
-            why = marked_cause o;
+            answer = a.answer;
+            yes = λ f. absurd (false≢true f);
+            no = λ f slots ds low high s m.
+                record { windows = s.windows; lows = s.lows; highs = s.highs; state = kept_b s m (sym (a.answer slots ds low high s m)) };
           }
 
     module _ {r : Bool} {F' R' C' S' : List ℕ} (v : Raised r F R C F' R' C' S' t k) where
-      -- the low is set
-      pub busy_search_yes : r ≡ true → BusyAnswered Yes F R H C F' R' C' t k
-      busy_search_yes x = record { busied = subst (λ y. Busied y F R H C F' R' C' t k) x (busied_search hi lo v); why = tt }
+      -- the marks where the low can't be set
+      pub busy_search_cause : r ≡ false → k ≤ width F R t → {c : Cause} → OfMarks c 2 S' → BusyCaused c F R H C t k
+      busy_search_cause x wide o = marked_cause (marked_held (v.wide wide) x) o
 
-      -- it can't be
-      pub busy_search_no : r ≡ false → k ≤ width F R t → {c : Cause} → OfMarks c 2 S' → BusyAnswered (No c) F R H C F' R' C' t k
-      busy_search_no x wide o =
-          record {
-            busied = subst (λ y. Busied y F R H C F' R' C' t k) x (busied_search hi lo v);
-            why = marked_cause (marked_held (v.wide wide) x) o;
-          }
+-- What `busy_or_cause` says by `raise_or_mark`
+pub busied_yes : {r : Bool} {F R H C F' R' C' : List ℕ} {t k : ℕ} → Busied r F R H C F' R' C' t k → r ≡ true
+    → BusyAnswered (Ok tt) F R H C F' R' C' t k
+busied_yes {F} {R} {H} {C} {F'} {R'} {C'} {t} {k} b x = record { busied = subst (λ y. Busied y F R H C F' R' C' t k) x b; why = tt }
+
+pub busied_no : {r : Bool} {F R H C F' R' C' : List ℕ} {t k : ℕ} {c : Cause} → Busied r F R H C F' R' C' t k → r ≡ false
+    → BusyCaused c F R H C t k → BusyAnswered (Err c) F R H C F' R' C' t k
+busied_no {F} {R} {H} {C} {F'} {R'} {C'} {t} {k} b x why = record { busied = subst (λ y. Busied y F R H C F' R' C' t k) x b; why = why }

@@ -17,8 +17,10 @@ use Rattle.schedules.specs.Tabulate.{count_size}
 use Rattle.placing.specs.Rations.{Rations, demands_from}
 use Rattle.placing.specs.RationLaws.{length_demands_from, rations_in_range}
 use Rattle.placing.specs.Words.{WindowWords, VolumeBytes}
-use Rattle.placing.specs.Represents.{Represents, Ready, raised, Busied, CanBegin, Begun}
-use Rattle.placing.specs.Represents.{DemandWords, SomeDemands, HighWords}
+use Rattle.placing.specs.declared.Words.{Words}
+use Rattle.placing.specs.Represents.{raised, CanBegin, DemandWords, SomeDemands, HighWords}
+use Rattle.placing.specs.WordCalls.{HeldIn, ReadyIn, BusiedIn, BegunIn}
+use Rattle.placing.specs.WordCallLaws.{busied_held, begun_held}
 use Rattle.placing.specs.StepLaws.{represents_ready, represents_feasible}
 
 -- ---- the words of demands
@@ -134,61 +136,62 @@ module _ {slots : ℕ} (low : List ℕ) (k : slots ≤ length low) where
       none n = omega arith
 
 -- the words hold a sound placing under the lows of the first t slots
-abbrev pub RaisedTo : (slots : ℕ) (low : List ℕ) (t : ℕ) (F₀ R₀ H C₀ F R C : List ℕ) → Type 0
-RaisedTo slots low t F₀ R₀ H C₀ F R C = (ds : List Demand) (high : List ℕ) → Represents slots ds (replicate slots 0) high F₀ R₀ H C₀ → Represents slots ds (lows_to slots low t) high F R H C
+abbrev pub RaisedTo : (slots : ℕ) (low : List ℕ) (t : ℕ) (w₀ w : Words) → Type 0
+RaisedTo slots low t w₀ w =
+    (ds : List Demand) (high : List ℕ) → HeldIn slots ds (replicate slots 0) high w₀ → HeldIn slots ds (lows_to slots low t) high w
 
 -- what `raise_lows` ensures: whether a sound placing exists under these lows, of whatever day the words hold
-abbrev pub LowsRaised : (r : Bool) (slots : ℕ) (low F R H C : List ℕ) → Type 0
-LowsRaised r slots low F R H C = (ds : List Demand) (high : List ℕ) → Represents slots ds (replicate slots 0) high F R H C → r ≡ feasible slots ds (take slots low) high
+abbrev pub LowsRaised : (r : Bool) (slots : ℕ) (low : List ℕ) → Words → Type 0
+LowsRaised r slots low w = (ds : List Demand) (high : List ℕ) → HeldIn slots ds (replicate slots 0) high w → r ≡ feasible slots ds (take slots low) high
 
 -- some day whose lows are 0
-pub record LowDay (slots : ℕ) (F R H C : List ℕ) : Type 0 where
+pub record LowDay (slots : ℕ) (w : Words) : Type 0 where
   pub demands : List Demand
   pub high : List ℕ
-  pub under : Represents slots demands (replicate slots 0) high F R H C
+  pub under : HeldIn slots demands (replicate slots 0) high w
 
-pub raised_begin : {slots : ℕ} {F R H C : List ℕ} (low : List ℕ) → slots ≤ length low → RaisedTo slots low 0 F R H C F R C
-raised_begin {slots} {F} {R} {H} {C} low k ds high u = subst (λ l. Represents slots ds l high F R H C) (lows_to_begin low k) u
+pub raised_begin : {slots : ℕ} {w : Words} (low : List ℕ) → slots ≤ length low → RaisedTo slots low 0 w w
+raised_begin {slots} {w} low k ds high u = subst (λ l. HeldIn slots ds l high w) (lows_to_begin low k) u
 
-module _ {slots : ℕ} {F₀ R₀ H C₀ F R C : List ℕ} (low : List ℕ) (k : slots ≤ length low) where
-  module _ {t : ℕ} (l : t < slots) (p : RaisedTo slots low t F₀ R₀ H C₀ F R C) where
-    pub raised_ready : LowDay slots F₀ R₀ H C₀ → Ready F R H C t
-    raised_ready s = represents_ready (p s.demands s.high s.under) t l
+module _ {slots : ℕ} {w₀ w : Words} (low : List ℕ) (k : slots ≤ length low) where
+  module _ {t : ℕ} (l : t < slots) (p : RaisedTo slots low t w₀ w) where
+    pub raised_ready : LowDay slots w₀ → ReadyIn w t
+    raised_ready s = represents_ready (p s.demands s.high s.under).represents t l
 
-    module _ {q : Bool} {F' R' C' : List ℕ} (b : Busied q F R H C F' R' C' t (get_or low t 0)) where
-      pub raised_next : q ≡ true → RaisedTo slots low (t + 1) F₀ R₀ H C₀ F' R' C'
-      raised_next e ds high u = subst (λ x. Represents slots ds x high F' R' H C') (lows_to_next low k t l) (b.yes e slots ds _ high (p ds high u) l)
+    module _ {q : Bool} {w' : Words} (b : BusiedIn q w w' t (get_or low t 0)) where
+      pub raised_next : q ≡ true → RaisedTo slots low (t + 1) w₀ w'
+      raised_next e ds high u = subst (λ x. HeldIn slots ds x high w') (lows_to_next low k t l) (busied_held b e (p ds high u) l)
 
-      pub raised_not : q ≡ false → (ds : List Demand) (high : List ℕ) → Represents slots ds (replicate slots 0) high F₀ R₀ H C₀
+      pub raised_not : q ≡ false → (ds : List Demand) (high : List ℕ) → HeldIn slots ds (replicate slots 0) high w₀
           → false ≡ feasible slots ds (take slots low) high
       raised_not e ds high u =
-          let s = p ds high u in
+          let s = (p ds high u).represents in
           sym (infeasible_tighter s.windows (lows_to slots low (t + 1)) high (take slots low) high (length_lows_to low k (t + 1) (omega arith)) s.highs
           (length-take-le slots low k) s.highs (lows_to_le low k (t + 1) (omega arith)) (λ u m. omega arith)
-          (ap (λ x. feasible slots ds x high) (sym (lows_to_next low k t l)) ∙ sym (b.answer slots ds _ high s l) ∙ e))
+          (ap (λ x. feasible slots ds x high) (sym (lows_to_next low k t l)) ∙ sym (b.busied.answer slots ds _ high s l) ∙ e))
 
-  pub raised_all : {t : ℕ} → t ≡ slots → RaisedTo slots low t F₀ R₀ H C₀ F R C → (ds : List Demand) (high : List ℕ)
-      → Represents slots ds (replicate slots 0) high F₀ R₀ H C₀ → true ≡ feasible slots ds (take slots low) high
+  pub raised_all : {t : ℕ} → t ≡ slots → RaisedTo slots low t w₀ w → (ds : List Demand) (high : List ℕ)
+      → HeldIn slots ds (replicate slots 0) high w₀ → true ≡ feasible slots ds (take slots low) high
   raised_all {t} e p ds high u =
-      sym (ap (λ x. feasible slots ds x high) (sym (ap (lows_to slots low) e ∙ lows_to_end low k)) ∙ represents_feasible (p ds high u))
+      sym (ap (λ x. feasible slots ds x high) (sym (ap (lows_to slots low) e ∙ lows_to_end low k)) ∙ represents_feasible (p ds high u).represents)
 
 -- ---- the answer
 
-module _ {slots : ℕ} {H W N F R C S : List ℕ} (low : List ℕ) (s : slots ≤ max_slots) (k : length low ≡ max_slots)
-    (h : length H ≡ max_slots) {q : Bool} (b : Begun q W N H F R C S)
+module _ {slots : ℕ} {H W N : List ℕ} {w : Words} (low : List ℕ) (s : slots ≤ max_slots) (k : length low ≡ max_slots)
+    (h : length H ≡ max_slots) {q : Bool} (b : BegunIn q W N H w)
     (ds : List Demand) (d : DemandWords slots ds W N) where
   pub begun_not : q ≡ false → false ≡ feasible slots ds (take slots low) (take slots H)
   begun_not e =
       sym (infeasible_tighter d.windows (replicate slots 0) (take slots H) (take slots low) (take slots H)
       (length-replicate slots 0) (high_words s h).long (length-take-le slots low (omega arith)) (high_words s h).long
       zeros (λ t l. omega arith)
-      (sym (b.answer slots ds (take slots H) d (high_words s h)) ∙ e))
+      (sym (b.begun.answer slots ds (take slots H) d (high_words s h)) ∙ e))
     where
       zeros : AtMost slots (replicate slots 0) (take slots low)
       zeros t l = omega (arith, get_or-replicate {A = ℕ} slots t 0 0 l)
 
-  pub begun_day : q ≡ true → Represents slots ds (replicate slots 0) (take slots H) F R H C
-  begun_day e = b.yes e slots ds (take slots H) d (high_words s h)
+  pub begun_day : q ≡ true → HeldIn slots ds (replicate slots 0) (take slots H) w
+  begun_day e = begun_held b e d (high_words s h)
 
-  pub begun_low_day : q ≡ true → LowDay slots F R H C
+  pub begun_low_day : q ≡ true → LowDay slots w
   begun_low_day e = record { demands = ds; high = take slots H; under = begun_day e }

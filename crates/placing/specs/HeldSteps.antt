@@ -1,8 +1,8 @@
 -- The steps of filling the highs of a day, and of adding up feedings and highs of marked slots. Assumes nothing.
-use Rattle.std.specs.Prelude.{◌≡◌, refl, List, ℕ, ◌+◌, ◌≤◌, ◌<◌, ltb, length, get_or, replicate}
-use Rattle.std.proofs.Common.{sym, ap, ◌∙◌, arith, lt-ltb, le-ltb}
+use Rattle.std.specs.Prelude.{◌≡◌, refl, List, ◌++◌, ℕ, ◌+◌, ◌-◌, ◌≤◌, ◌<◌, ltb, length, get_or, take, drop, replicate}
+use Rattle.std.proofs.Common.{sym, ap, ◌∙◌, arith, lt-ltb, le-ltb, length-take-le}
 use Rattle.std.specs.Int.Count.{ones}
-use Rattle.std.proofs.lemmas.List.{length-replicate, get_or-replicate}
+use Rattle.std.proofs.lemmas.List.{length-replicate, get_or-replicate, drop-replicate}
 use Rattle.checks.specs.Limits.{max_slots}
 use Rattle.common.specs.Buffers.{padded}
 use Rattle.theory.specs.Sums.{sum_none, sum_next}
@@ -13,14 +13,9 @@ use Rattle.schedules.specs.Slots.{Slots}
 use Rattle.schedules.specs.Shortfall.{capacity}
 use Rattle.schedules.specs.Tabulate.{tab}
 use Rattle.schedules.proofs.AsFunctions.{sum_over_tab}
-use Rattle.common.specs.FillLaws.{FilledTo, filled_end, get_d_padded}
+use Rattle.common.specs.FillLaws.{get_d_padded}
 use Rattle.placing.specs.Represents.{HighWords, marks_of, marked_loads, marked_highs}
 use Rattle.common.specs.BufferLaws.{length_padded}
-
-pub highs_end : (slots blowers t : ℕ) → slots ≤ max_slots → t ≡ slots → (xs : List ℕ) → FilledTo max_slots (λ k. blowers) t xs → xs ≡ padded max_slots (replicate slots blowers)
-highs_end slots blowers t l e xs h =
-    filled_end max_slots (replicate slots blowers) (λ k. blowers) t (e ∙ sym (length-replicate slots blowers)) (omega (arith, length-replicate slots blowers))
-    (λ k m. sym (get_or-replicate slots k blowers 0 (rw (length-replicate slots blowers) at m))) xs h
 
 -- the highs of the day, as words
 pub full_words : (slots blowers : ℕ) {H : List ℕ} → slots ≤ max_slots → H ≡ padded max_slots (replicate slots blowers) → HighWords slots (replicate slots blowers) H
@@ -33,33 +28,26 @@ full_words slots blowers l e =
 pub length_full : (slots blowers : ℕ) {H : List ℕ} → slots ≤ max_slots → H ≡ padded max_slots (replicate slots blowers) → length H ≡ max_slots
 length_full slots blowers l e = ap length e ∙ length_padded max_slots (replicate slots blowers) (omega (arith, length-replicate slots blowers))
 
+-- the blowers at the front of zeros
+pub highs_filled : (slots blowers : ℕ) {front H : List ℕ} → slots ≤ max_slots → H ≡ replicate max_slots 0 → front ≡ replicate (length (take slots H)) blowers
+    → front ++ drop slots H ≡ padded max_slots (replicate slots blowers)
+unfolding padded
+highs_filled slots blowers {H = H} l z e =
+    let long : length (take slots H) ≡ slots = length-take-le slots H (omega (arith, ap length z, length-replicate {A = ℕ} max_slots 0)) in
+    ap (λ xs. xs ++ drop slots H) (e ∙ ap (λ n. replicate n blowers) long)
+    ∙ ap (λ xs. replicate slots blowers ++ xs)
+    (ap (drop slots) z ∙ drop-replicate slots max_slots 0 ∙ ap (λ n. replicate (max_slots - n) 0) (sym (length-replicate slots blowers)))
+
 -- Sums over marked slots ------------------------------------------------------------
 
-marked_none : (S : List ℕ) (f : ℕ → ℕ) → 0 ≡ sum_on 0 (seen_at S) f
+pub marked_none : (S : List ℕ) (f : ℕ → ℕ) → 0 ≡ sum_on 0 (seen_at S) f
 unfolding sum_on
 marked_none S f = sym (sum_none (λ t. pick (seen_at S t) (f t)))
 
-marked_next : (S : List ℕ) (f : ℕ → ℕ) (n t x : ℕ) → n ≡ sum_on t (seen_at S) f → x ≡ pick (ltb 0 (at S t)) (f t)
+pub marked_next : (S : List ℕ) (f : ℕ → ℕ) (n t x : ℕ) → n ≡ sum_on t (seen_at S) f → x ≡ pick (ltb 0 (at S t)) (f t)
     → n + x ≡ sum_on (t + 1) (seen_at S) f
 unfolding sum_on seen_at
 marked_next S f n t x e g = omega (arith, e, g, sum_next t (λ t. pick (ltb 0 (at S t)) (f t)))
-
-pub loads_begin : (F S : List ℕ) → 0 ≡ marked_loads 0 F S
-unfolding marked_loads
-loads_begin F S = marked_none S (load F)
-
-pub loads_next : (F S : List ℕ) (n t x : ℕ) → n ≡ marked_loads t F S → x ≡ pick (ltb 0 (at S t)) (ones (at F t)) → n + x ≡ marked_loads (t + 1) F S
-unfolding marked_loads
-loads_next F S = marked_next S (load F)
-
-pub highs_begin : (H S : List ℕ) → 0 ≡ marked_highs 0 H S
-unfolding marked_highs
-highs_begin H S = marked_none S (at H)
-
-pub highs_next : (H S : List ℕ) (n t x : ℕ) → n ≡ marked_highs t H S → x ≡ pick (ltb 0 (at S t)) (at H t)
-    → n + x ≡ marked_highs (t + 1) H S
-unfolding marked_highs
-highs_next H S = marked_next S (at H)
 
 pub marked_is : (x mark : ℕ) → 0 < mark → x ≡ pick (ltb 0 mark) x
 marked_is x mark h = rw (lt-ltb 0 mark h)

@@ -2,6 +2,8 @@
 -- What the words hold, as the layers above see them
 pub mod Represents
 pub mod CauseCalls
+pub mod WordCalls
+pub mod WordCallLaws
 -- What the functions within the crate require and ensure, and the steps of their loops
 pub mod Rations
 pub mod Words

@@ -1,11 +1,13 @@
-// Questions about one slot as in steps.rt, where a no says why: the cause of a stretch's end. The slots of a cause are
+// Questions about one slot as in steps.rt, where a refusal says why: the cause of a stretch's end. The slots of a cause are
 // those that the search which failed has marked.
 ghost use Rattle.std.specs.Prelude.{◌≡◌, ◌+◌, ◌^◌, ◌≤◌, ◌<◌, ltb, length};
 ghost use Rattle.theory.specs.SumsOver.{pick};
-ghost use Rattle.placing.specs.Represents.{Ready};
-ghost use Rattle.placing.specs.CauseCalls.{MarkWord, OfMarks, IdleAnswered, BusyAnswered};
+ghost use Rattle.grid.specs.Grid.{at};
+ghost use Rattle.loads.specs.Relief.{width};
+ghost use Rattle.placing.specs.CauseCalls.{MarkWord};
+ghost use Rattle.placing.specs.WordCalls.{ReadyIn, RaisedOrMarked, IdleAnsweredIn, BusyAnsweredIn};
 
-use crate::{Answer, Cause, steps};
+use crate::{Cause, Words};
 use loads::relief;
 
 // `word` with the bit j where the mark is not 0.
@@ -31,83 +33,79 @@ fn word_of(seen: &[u8; 96], from: usize, n: usize) -> u64
     word
 }
 
-// Cause 1 with the marked slots.
-fn shortfall_of(seen: &[u8; 96]) -> Cause
+// The marked slots as the two words of a cause.
+fn marked_words(seen: &[u8; 96]) -> (u64, u64)
     requires { length seen.now ≡ 96 }
-    ensures { OfMarks result 1 seen.now }
+    ensures { MarkWord result.0 seen.now 0 64 × MarkWord result.1 seen.now 64 32 }
 {
-    let a = word_of(seen, 0, 64);
-    let b = word_of(seen, 64, 32);
-    Cause::Shortfall(a, b)
+    (word_of(seen, 0, 64), word_of(seen, 64, 32))
 }
 
-// Cause 2 with the marked slots.
-fn excess_of(seen: &[u8; 96]) -> Cause
-    requires { length seen.now ≡ 96 }
-    ensures { OfMarks result 2 seen.now }
-{
-    let a = word_of(seen, 0, 64);
-    let b = word_of(seen, 64, 32);
-    Cause::Excess(a, b)
-}
+impl Words {
+    // `idle`, and why no sound placing exists with at most k − 1 feedings in slot t + 1. At most one search.
+    pub fn idle_or_cause(&mut self, t: usize, k: u8) -> Result<(), Cause>
+        requires { ReadyIn self.old t × (1 ≤ k) }
+        ensures { IdleAnsweredIn result self.old self.new t k }
+    {
+        if self.has_low(t, k) {
+            return Err(Cause::LowAboveHigh(t as u32 + 1));
+        }
+        if self.high[t] < k {
+            return Ok(());
+        }
+        if relief::lower(
+            &mut self.fed,
+            &mut self.rest,
+            &mut self.high,
+            &mut self.seen,
+            t,
+            k - 1,
+        ) {
+            return Ok(());
+        }
+        let (first, second) = marked_words(&self.seen);
+        Err(Cause::Shortfall(first, second))
+    }
 
-// `idle`, and why no sound placing exists with at most k − 1 feedings in slot t + 1. At most one search.
-pub fn idle_or_cause(
-    fed: &mut [u64; 96],
-    rest: &mut [u64; 96],
-    high: &mut [u8; 96],
-    spare: &[u8; 96],
-    seen: &mut [u8; 96],
-    t: usize,
-    k: u8,
-) -> Answer
-    requires { Ready fed.old rest.old high.old spare.now t × (1 ≤ k) }
-    ensures { IdleAnswered result fed.old rest.old high.old spare.now
-        fed.new rest.new high.new t k }
-{
-    if steps::has_low(fed[t], rest[t], spare[t], k) {
-        return Answer::No(Cause::LowAboveHigh(t as u32 + 1));
+    // Raises the low of slot t to k; where that can't be done, the marks are left on the set contained in every set of
+    // greatest excess. Where fewer than k rations have the slot in their windows, `raise` would not search.
+    fn raise_or_mark(&mut self, t: usize, k: u8) -> bool
+        requires { ReadyIn self.old t × (k ≤ at self.old.high t) × (width self.old.fed self.old.rest t < at self.old.spare t + k) }
+        ensures { RaisedOrMarked result self.old self.new t k }
+    {
+        if relief::width(self.fed[t], self.rest[t]) < k as u32 {
+            relief::mark_excess(
+                &mut self.fed,
+                &mut self.rest,
+                &mut self.spare,
+                &mut self.seen,
+                t,
+                k,
+            );
+            return false;
+        }
+        relief::raise(
+            &mut self.fed,
+            &mut self.rest,
+            &mut self.spare,
+            &mut self.seen,
+            t,
+            k,
+        )
     }
-    if high[t] < k {
-        return Answer::Yes;
-    }
-    if relief::lower(fed, rest, high, seen, t, k - 1) {
-        return Answer::Yes;
-    }
-    let cause = shortfall_of(seen);
-    Answer::No(cause)
-}
 
-// `busy`, and why no sound placing exists with at least k feedings in slot t + 1. Where fewer than k rations have the
-// slot in their windows, `raise` would not search.
-pub fn busy_or_cause(
-    fed: &mut [u64; 96],
-    rest: &mut [u64; 96],
-    high: &[u8; 96],
-    spare: &mut [u8; 96],
-    seen: &mut [u8; 96],
-    t: usize,
-    k: u8,
-) -> Answer
-    requires { Ready fed.old rest.old high.now spare.old t }
-    ensures { BusyAnswered result fed.old rest.old high.now spare.old
-        fed.new rest.new spare.new t k }
-{
-    if high[t] < k {
-        return Answer::No(Cause::LowAboveHigh(t as u32 + 1));
+    // `busy`, and why no sound placing exists with at least k feedings in slot t + 1.
+    pub fn busy_or_cause(&mut self, t: usize, k: u8) -> Result<(), Cause>
+        requires { ReadyIn self.old t }
+        ensures { BusyAnsweredIn result self.old self.new t k }
+    {
+        if self.high[t] < k {
+            return Err(Cause::LowAboveHigh(t as u32 + 1));
+        }
+        if self.has_low(t, k) || self.raise_or_mark(t, k) {
+            return Ok(());
+        }
+        let (first, second) = marked_words(&self.seen);
+        Err(Cause::Excess(first, second))
     }
-    let is_kept = steps::has_low(fed[t], rest[t], spare[t], k);
-    if is_kept {
-        return Answer::Yes;
-    }
-    if relief::width(fed[t], rest[t]) < k as u32 {
-        relief::mark_excess(fed, rest, spare, seen, t, k);
-        let alone = excess_of(seen);
-        return Answer::No(alone);
-    }
-    if relief::raise(fed, rest, spare, seen, t, k) {
-        return Answer::Yes;
-    }
-    let cause = excess_of(seen);
-    Answer::No(cause)
 }

@@ -3,23 +3,15 @@ ghost use Rattle.std.specs.Prelude.{◌≡◌, ◌≤◌, length};
 ghost use Rattle.placing.specs.FeasibilityParts.{CanAsk, WordsAnswered};
 ghost use Rattle.placing.specs.FeasibilitySteps.{LowDay, LowsRaised};
 
-use crate::{begin, steps};
+use crate::Words;
 
 // Raises the low of every slot, from words whose lows are 0; false at the first one that can't be raised.
-fn raise_lows(
-    fed: &mut [u64; 96],
-    rest: &mut [u64; 96],
-    high: &[u8; 96],
-    spare: &mut [u8; 96],
-    seen: &mut [u8; 96],
-    slots: usize,
-    low: &[u8; 96],
-) -> bool
-    requires { LowDay slots fed.old rest.old high.now spare.old × (slots ≤ length low.now) × (length low.now ≡ 96) }
-    ensures { LowsRaised result slots low.now fed.old rest.old high.now spare.old }
+fn raise_lows(words: &mut Words, slots: usize, low: &[u8; 96]) -> bool
+    requires { LowDay slots words.old × (slots ≤ length low.now) × (length low.now ≡ 96) }
+    ensures { LowsRaised result slots low.now words.old }
 {
     for t in 0..slots {
-        if !steps::busy(fed, rest, high, spare, seen, t, low[t]) {
+        if !words.busy(t, low[t]) {
             return false;
         }
     }
@@ -39,14 +31,6 @@ pub fn is_feasible(
     ensures { WordsAnswered result slots windows.now volumes.now
         low.now high.now }
 {
-    let mut fed = [0u64; 96];
-    let mut rest = [0u64; 96];
-    let mut spare = [0u8; 96];
-    let mut seen = [0u8; 96];
-    if !begin::begin(
-        windows, volumes, high, &mut fed, &mut rest, &mut spare, &mut seen,
-    ) {
-        return false;
-    }
-    raise_lows(&mut fed, &mut rest, high, &mut spare, &mut seen, slots, low)
+    let mut words = Words::new();
+    words.begin(windows, volumes, high) && raise_lows(&mut words, slots, low)
 }

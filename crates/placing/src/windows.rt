@@ -9,10 +9,8 @@ fn mark_window(windows: &mut [u64; 96], j: u32, release: usize, deadline: usize)
     requires { CanMark windows.old j release deadline }
     ensures { Marked j release deadline windows.old windows.new }
 {
-    let mut t = release - 1;
-    while t < deadline {
+    for t in release - 1..deadline {
         windows[t] = bits::add_bit(windows[t], j);
-        t += 1;
     }
 }
 
@@ -22,8 +20,7 @@ pub fn mark_windows(windows: &mut [u64; 96], n: usize, numbers: &[u32; 256])
     requires { Rations max_slots n numbers.now × (windows.old ≡ replicate max_slots 0) }
     ensures { WindowWords max_slots (demands_from max_slots n numbers.now) windows.new }
 {
-    let mut j = 0;
-    while j < n {
+    for j in 0..n {
         let at = 4 * j;
         mark_window(
             windows,
@@ -31,7 +28,6 @@ pub fn mark_windows(windows: &mut [u64; 96], n: usize, numbers: &[u32; 256])
             numbers[at + 1] as usize,
             numbers[at + 2] as usize,
         );
-        j += 1;
     }
 }
 
@@ -41,10 +37,8 @@ pub fn volumes_of(n: usize, numbers: &[u32; 256]) -> [u8; 64]
     ensures { VolumeBytes (demands_from max_slots n numbers.now) result }
 {
     let mut volumes = [0u8; 64];
-    let mut j = 0;
-    while j < n {
+    for j in 0..n {
         volumes[j] = numbers[4 * j + 3] as u8;
-        j += 1;
     }
     volumes
 }

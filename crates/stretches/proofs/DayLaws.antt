@@ -5,7 +5,10 @@ use Rattle.std.proofs.Math.Path.{ap}
 use Rattle.checks.specs.Limits.{max_slots}
 use Rattle.schedules.specs.Schedules.{Demand}
 use Rattle.schedules.specs.Shortfall.{critical_set}
-use Rattle.placing.specs.Represents.{Represents, Begun, CanBegin, marked_loads, marked_highs}
+use Rattle.placing.specs.declared.Words.{Words}
+use Rattle.placing.specs.Represents.{CanBegin, marked_loads, marked_highs}
+use Rattle.placing.specs.WordCalls.{HeldIn, BegunIn}
+use Rattle.placing.specs.WordCallLaws.{begun_held}
 use Rattle.placing.specs.Rations.{Rations, demands_from}
 use Rattle.placing.specs.Words.{WindowWords, VolumeBytes}
 use Rattle.placing.specs.RationLaws.{length_demands_from}
@@ -27,14 +30,14 @@ use Rattle.stretches.specs.Days.{CanChooseDay, DayChosen, DayPlanned, CanPlan, W
 
 -- ---- `choose_day`
 
-module _ (slots m : ℕ) {F R H C F₁ R₁ H₁ C₁ : List ℕ} (a : AllSettled slots m F R H C F₁ R₁ H₁ C₁) where
+module _ (slots m : ℕ) {w w₁ : Words} (a : AllSettled slots m w w₁) where
   -- the bounds that are settled have one count for each slot
-  module _ (ds : List Demand) (b : Bounds) (u : Under slots ds b F R H C) (below : (t : ℕ) → t < slots → get_or b.high t 0 ≤ m) where
+  module _ (ds : List Demand) (b : Bounds) (u : Under slots ds b w) (below : (t : ℕ) → t < slots → get_or b.high t 0 ≤ m) where
     possible : FeasibleDay slots ds b
     possible = under_possible u
 
     settled : settle_all slots ds m b ≡ settle_each slots ds m b
-    settled = settle_all_is_slotwise u.windows possible m
+    settled = settle_all_is_slotwise u.represents.windows possible m
 
     counts_are : loads slots ds m b ≡ (settle_each slots ds m b).low
     unfolding loads
@@ -42,32 +45,32 @@ module _ (slots m : ℕ) {F R H C F₁ R₁ H₁ C₁ : List ℕ} (a : AllSettle
 
     highs_are : loads slots ds m b ≡ (settle_each slots ds m b).high
     unfolding loads
-    highs_are = low_is_high u.windows possible m below ∙ ap (λ c. c.high) settled
+    highs_are = low_is_high u.represents.windows possible m below ∙ ap (λ c. c.high) settled
 
-    exact : Represents slots ds (loads slots ds m b) (loads slots ds m b) F₁ R₁ H₁ C₁
+    exact : HeldIn slots ds (loads slots ds m b) (loads slots ds m b) w₁
     exact =
-        subst (λ l. Represents slots ds l (loads slots ds m b) F₁ R₁ H₁ C₁) (sym counts_are)
-        (subst (λ h. Represents slots ds (settle_each slots ds m b).low h F₁ R₁ H₁ C₁) (sym highs_are)
+        subst (λ l. HeldIn slots ds l (loads slots ds m b) w₁) (sym counts_are)
+        (subst (λ h. HeldIn slots ds (settle_each slots ds m b).low h w₁) (sym highs_are)
         (a.settled ds b u))
 
-    count_at : (t : ℕ) → t < slots → get_or H₁ t 0 ≡ get_or (loads slots ds m b) t 0
-    count_at t l = exact.state.high_at t l
+    count_at : (t : ℕ) → t < slots → get_or w₁.high t 0 ≡ get_or (loads slots ds m b) t 0
+    count_at t l = exact.represents.state.high_at t l
 
-  pub settled_feedable : SomeDay slots F R H C → Feedable F₁ R₁ H₁
-  settled_feedable s = represents_feedable (a.settled s.demands s.bounds s.under)
+  pub settled_feedable : SomeDay slots w → Feedable w₁.fed w₁.rest w₁.high
+  settled_feedable s = represents_feedable (a.settled s.demands s.bounds s.under).represents
 
-  pub can_choose : {rations : ℕ} → CanChooseDay slots rations F R H C
-      → CanChoose F₁ R₁ H₁ (replicate max_slots 0) slots rations
+  pub can_choose : {rations : ℕ} → CanChooseDay slots rations w
+      → CanChoose w₁.fed w₁.rest w₁.high (replicate max_slots 0) slots rations
   can_choose s = record { words = settled_feedable s.day; blank = refl; short = s.short; few = s.few }
 
-  pub day_chosen : {rations : ℕ} {W : List ℕ} → CanChooseDay slots rations F R H C
-      → Chose F₁ R₁ H₁ W slots rations → DayChosen slots m rations F R H C (record { counts = H₁; fed = W })
+  pub day_chosen : {rations : ℕ} {W : List ℕ} → CanChooseDay slots rations w
+      → Chose w₁.fed w₁.rest w₁.high W slots rations → DayChosen slots m rations w (record { counts = w₁.high; fed = W })
   day_chosen s c =
       record {
         long = (settled_feedable s.day).counts;
         past = a.past;
         counted = λ ds b u below. count_at ds b u below;
-        fed = λ ds b e u below. c.holds ds (loads slots ds m b) C₁ e (exact ds b u below);
+        fed = λ ds b e u below. c.holds ds (loads slots ds m b) w₁.spare e (exact ds b u below).represents;
       }
 
 -- ---- `plan_words`
@@ -76,8 +79,8 @@ module _ {slots rations : ℕ} (m : ℕ) {W N H : List ℕ} (p : CanPlan slots r
   pub can_begin_words : {C : List ℕ} → length C ≡ max_slots → CanBegin W N H C
   can_begin_words c = can_begin p.day p.highs c
 
-  module _ {q : Bool} {F R C S : List ℕ} (b : Begun q W N H F R C S) where
-    pub can_choose_words : q ≡ true → CanChooseDay slots rations F R H C
+  module _ {q : Bool} {x : Words} (b : BegunIn q W N H x) where
+    pub can_choose_words : q ≡ true → CanChooseDay slots rations x
     can_choose_words e =
         record {
           day =
@@ -85,34 +88,34 @@ module _ {slots rations : ℕ} (m : ℕ) {W N H : List ℕ} (p : CanPlan slots r
                 demands = p.day.demands;
                 bounds = bounds_under slots (take slots H);
                 under =
-                    b.yes e slots p.day.demands (take slots H) p.day.words
-                    (high_words (some_short p.day) p.highs);
+                    begun_held b e p.day.words (high_words (some_short p.day) p.highs);
               };
           short = some_short p.day;
           few = p.few;
         }
 
-    pub words_planned : q ≡ true → {d : DayPlan} → DayChosen slots m rations F R H C d → WordsPlanned (Ok d) slots m rations W N H
+    pub words_planned : q ≡ true → {d : DayPlan} → DayChosen slots m rations x d → WordsPlanned (Ok d) slots m rations W N H
     words_planned e c ds high d g n below =
-        let u = b.yes e slots ds high d g in
+        let u = begun_held b e d g in
         record {
-          can = sym (b.answer slots ds high d g) ∙ e;
+          can = sym (b.begun.answer slots ds high d g) ∙ e;
           counts_long = c.long;
           counted = c.counted ds (bounds_under slots high) u below;
-          counts_past = λ t l. c.past t l ∙ p.past t l;
+          counts_past = λ t l. c.past t l ∙ ap (λ h. get_or h t 0) b.highs ∙ p.past t l;
           fed = c.fed ds (bounds_under slots high) n u below;
         }
 
-    pub words_held : q ≡ false → {x y : ℕ} → x ≡ marked_loads slots F S → y ≡ marked_highs slots H S
-        → WordsPlanned (Err (record { marks = S; forced = x; capacity = y })) slots m rations W N H
-    words_held e {x} {y} u v ds high d g n below =
+    pub words_held : q ≡ false → {forced capacity : ℕ} → forced ≡ marked_loads slots x.fed x.seen → capacity ≡ marked_highs slots x.high x.seen
+        → WordsPlanned (Err (record { marks = x.seen; forced = forced; capacity = capacity })) slots m rations W N H
+    words_held e u v ds high d g n below =
         record {
-          cannot = sym (b.answer slots ds high d g) ∙ e;
-          marks_long = b.marks_long e;
-          shown = b.marked e slots ds high d g;
-          marks_past = b.marks_past e slots ds d;
-          forced_in = u ∙ sym (b.counted e slots ds high d g);
-          high_over = v ∙ highs_capacity S (critical_set slots ds high) g (b.marked e slots ds high d g);
+          cannot = sym (b.begun.answer slots ds high d g) ∙ e;
+          marks_long = b.begun.marks_long e;
+          shown = b.begun.marked e slots ds high d g;
+          marks_past = b.begun.marks_past e slots ds d;
+          forced_in = u ∙ sym (b.begun.counted e slots ds high d g);
+          high_over = v ∙ ap (λ h. marked_highs slots h x.seen) b.highs
+              ∙ highs_capacity x.seen (critical_set slots ds high) g (b.begun.marked e slots ds high d g);
         }
 
 -- ---- `plan_day`

@@ -1,12 +1,14 @@
 -- How the code of the method goes on by one slot and by one blower. Assumes nothing.
-use Rattle.std.specs.Prelude.{◌≡◌, refl, Bool, true, not, List}
+use Rattle.std.specs.Prelude.{◌≡◌, refl, Bool, true, not, List, get_or}
 use Rattle.std.proofs.Common.{sym, ◌∙◌, add-one}
 use Rattle.std.proofs.Math.Path.{ap, subst}
 use Rattle.std.proofs.Math.Bool.{false}
 use Prim.Native.Nat.{ℕ, zero, suc, ◌+◌, ◌-◌, ◌≤◌, ◌<◌}
 use native.Mathlib.Omega.{arith}
 use Rattle.schedules.specs.Schedules.{Demand}
-use Rattle.placing.specs.Represents.{Ready, Idled, Busied}
+use Rattle.placing.specs.declared.Words.{Words}
+use Rattle.placing.specs.WordCalls.{ReadyIn, IdledIn, BusiedIn}
+use Rattle.placing.specs.WordCallLaws.{idled_held, idled_kept, busied_held, busied_kept}
 use Rattle.placing.specs.StepLaws.{represents_feasible, represents_ready}
 use Rattle.method.specs.Method.{Bounds, FeasibleDay, feasible_under}
 use Rattle.method.specs.Slotwise.{keep_at, settle_from, settle_each}
@@ -14,34 +16,36 @@ use Rattle.method.proofs.StepLaws.{other_possible, busy_at_stays, busy_at_change
 use Rattle.stretches.specs.Settling.{Under, SomeDay, SomeSlot, Kept, Stepped, Settled, Left, LeftBlowers, Passing, PassingBlowers}
 
 -- words that hold a day say that it has a sound placing
-pub under_possible : {slots : ℕ} {ds : List Demand} {b : Bounds} {F R H C : List ℕ} → Under slots ds b F R H C → FeasibleDay slots ds b
-under_possible u = record { sized = record { each_low = u.lows; each_high = u.highs }; possible = represents_feasible u }
+pub under_possible : {slots : ℕ} {ds : List Demand} {b : Bounds} {w : Words} → Under slots ds b w → FeasibleDay slots ds b
+under_possible u =
+    let r = u.represents in
+    record { sized = record { each_low = r.lows; each_high = r.highs }; possible = represents_feasible r }
 
-pub slot_ready : {t : ℕ} {F R H C : List ℕ} → SomeSlot t F R H C → Ready F R H C t
-slot_ready s = represents_ready s.day.under _ s.inside
+pub slot_ready : {t : ℕ} {w : Words} → SomeSlot t w → ReadyIn w t
+slot_ready s = represents_ready s.day.under.represents _ s.inside
 
-module _ {t k : ℕ} {F R H C : List ℕ} where
-  pub kept_idle : {r : Bool} {F' R' H' : List ℕ} → Idled r F R H C F' R' H' t k → Kept r k false t F R H C F' R' H' C
+module _ {t k : ℕ} {w : Words} where
+  pub kept_idle : {r : Bool} {w' : Words} → IdledIn r w w' t k → Kept r k false t w w'
   kept_idle i =
       record {
-        answer = λ slots ds b u l. i.answer slots ds b.low b.high u l;
-        yes = λ e slots ds b u l. i.yes e slots ds b.low b.high u l;
-        no = λ e slots ds b u l. i.no e slots ds b.low b.high u l;
-        others = i.others;
+        answer = λ slots ds b u l. i.idled.answer slots ds b.low b.high u.represents l;
+        yes = λ e slots ds b u l. idled_held i e u l;
+        no = λ e slots ds b u l. idled_kept i e u l;
+        others = i.idled.others;
       }
 
-  pub kept_busy : {r : Bool} {F' R' C' : List ℕ} → Busied r F R H C F' R' C' t k → Kept r k true t F R H C F' R' H C'
+  pub kept_busy : {r : Bool} {w' : Words} → BusiedIn r w w' t k → Kept r k true t w w'
   kept_busy i =
       record {
-        answer = λ slots ds b u l. i.answer slots ds b.low b.high u l;
-        yes = λ e slots ds b u l. i.yes e slots ds b.low b.high u l;
-        no = λ e slots ds b u l. i.no e slots ds b.low b.high u l;
-        others = λ u n. refl;
+        answer = λ slots ds b u l. i.busied.answer slots ds b.low b.high u.represents l;
+        yes = λ e slots ds b u l. busied_held i e u l;
+        no = λ e slots ds b u l. busied_kept i e u l;
+        others = λ u n. ap (λ h. get_or h u 0) i.highs;
       }
 
-  module _ {busy r : Bool} {F₁ R₁ H₁ C₁ : List ℕ} (a : Kept r k busy t F R H C F₁ R₁ H₁ C₁) where
+  module _ {busy r : Bool} {w₁ : Words} (a : Kept r k busy t w w₁) where
     -- the blower stays as it is
-    pub stays : r ≡ true → Stepped busy k busy t F R H C F₁ R₁ H₁ C₁
+    pub stays : r ≡ true → Stepped busy k busy t w w₁
     stays e =
         record {
           does = λ slots ds b u l. sym (busy_at_stays slots ds k busy t b (sym (a.answer slots ds b u l) ∙ e));
@@ -50,11 +54,11 @@ module _ {t k : ℕ} {F R H C : List ℕ} where
         }
 
     module _ (e : r ≡ false) where
-      pub cannot_stay : (slots : ℕ) (ds : List Demand) (b : Bounds) → Under slots ds b F R H C → t < slots → feasible_under slots ds (keep_at k busy t b) ≡ false
+      pub cannot_stay : (slots : ℕ) (ds : List Demand) (b : Bounds) → Under slots ds b w → t < slots → feasible_under slots ds (keep_at k busy t b) ≡ false
       cannot_stay slots ds b u l = sym (a.answer slots ds b u l) ∙ e
 
       -- after a question that was answered no, some day's slot again
-      pub slot_again : SomeSlot t F R H C → SomeSlot t F₁ R₁ H₁ C₁
+      pub slot_again : SomeSlot t w → SomeSlot t w₁
       slot_again s =
           record {
             slots = s.slots;
@@ -63,27 +67,27 @@ module _ {t k : ℕ} {F R H C : List ℕ} where
           }
 
       -- it can't, and so it can change over
-      pub turns : {q : Bool} {F' R' H' C' : List ℕ} → Kept q k (not busy) t F₁ R₁ H₁ C₁ F' R' H' C' → Stepped (not busy) k busy t F R H C F' R' H' C'
+      pub turns : {q : Bool} {w' : Words} → Kept q k (not busy) t w₁ w' → Stepped (not busy) k busy t w w'
       turns o =
           record {
             does = λ slots ds b u l. sym (busy_at_changes slots ds k busy t b (cannot_stay slots ds b u l));
             keeps = λ slots ds b u l.
                 let v = a.no e slots ds b u l in
-                o.yes (o.answer slots ds b v l ∙ other_possible u.windows k busy t (under_possible u) l (cannot_stay slots ds b u l)) slots ds b v l;
+                o.yes (o.answer slots ds b v l ∙ other_possible u.represents.windows k busy t (under_possible u) l (cannot_stay slots ds b u l)) slots ds b v l;
             others = λ u n. o.others u n ∙ a.others u n;
           }
 
 -- ---- the slots of a blower
 
 module _ {slots k : ℕ} where
-  pub left_begin : {ds : List Demand} {b : Bounds} {F R H C : List ℕ} → Under slots ds b F R H C → Left slots k false 0 ds b F R H C
+  pub left_begin : {ds : List Demand} {b : Bounds} {w : Words} → Under slots ds b w → Left slots k false 0 ds b w
   left_begin {ds} {b} u = record { bounds = b; under = u; same = ap (λ n. settle_from slots ds k false n 0 b) (all slots) }
     where
       all : (n : ℕ) → n ≡ n - 0
       all n = omega arith
 
-  pub left_next : {busy r : Bool} {t : ℕ} {ds : List Demand} {b : Bounds} {F R H C F' R' H' C' : List ℕ} → t < slots → Left slots k busy t ds b F R H C
-      → Stepped r k busy t F R H C F' R' H' C' → Left slots k r (t + 1) ds b F' R' H' C'
+  pub left_next : {busy r : Bool} {t : ℕ} {ds : List Demand} {b : Bounds} {w w' : Words} → t < slots → Left slots k busy t ds b w
+      → Stepped r k busy t w w' → Left slots k r (t + 1) ds b w'
   unfolding settle_from
   left_next {busy} {r} {t} {ds} {b} l p s =
       let c = p.bounds in
@@ -100,16 +104,16 @@ module _ {slots k : ℕ} where
       one_more : slots - t ≡ suc (slots - (t + 1))
       one_more = omega arith
 
-  pub left_end : {busy : Bool} {t : ℕ} {ds : List Demand} {b : Bounds} {F R H C : List ℕ} → slots ≤ t → Left slots k busy t ds b F R H C
-      → Under slots ds (settle_from slots ds k false slots 0 b) F R H C
+  pub left_end : {busy : Bool} {t : ℕ} {ds : List Demand} {b : Bounds} {w : Words} → slots ≤ t → Left slots k busy t ds b w
+      → Under slots ds (settle_from slots ds k false slots 0 b) w
   unfolding settle_from
-  left_end {busy} {t} {ds} {b} {F} {R} {H} {C} l p =
-      subst (λ c. Under slots ds c F R H C) (sym (p.same ∙ ap (λ n. settle_from slots ds k busy n t p.bounds) none)) p.under
+  left_end {busy} {t} {ds} {b} {w} l p =
+      subst (λ c. Under slots ds c w) (sym (p.same ∙ ap (λ n. settle_from slots ds k busy n t p.bounds) none)) p.under
     where
       none : slots - t ≡ zero
       none = omega arith
 
-  pub passing_slot : {busy : Bool} {t : ℕ} {F₀ R₀ H₀ C₀ F R H C : List ℕ} → SomeDay slots F₀ R₀ H₀ C₀ → t < slots → Passing slots k busy t F₀ R₀ H₀ C₀ F R H C → SomeSlot t F R H C
+  pub passing_slot : {busy : Bool} {t : ℕ} {w₀ w : Words} → SomeDay slots w₀ → t < slots → Passing slots k busy t w₀ w → SomeSlot t w
   passing_slot s l p =
       let q = p s.demands s.bounds s.under in
       record { slots = slots; day = record { demands = s.demands; bounds = q.bounds; under = q.under }; inside = l }
@@ -117,14 +121,14 @@ module _ {slots k : ℕ} where
 -- ---- the blowers
 
 module _ {slots m : ℕ} where
-  pub blowers_begin : {ds : List Demand} {b : Bounds} {F R H C : List ℕ} → Under slots ds b F R H C → LeftBlowers slots m m ds b F R H C
+  pub blowers_begin : {ds : List Demand} {b : Bounds} {w : Words} → Under slots ds b w → LeftBlowers slots m m ds b w
   blowers_begin {b} u = record { bounds = b; under = u; same = refl }
 
-  pub blowers_next : {k : ℕ} {ds : List Demand} {b : Bounds} {F R H C F' R' H' C' : List ℕ} → 0 < k → LeftBlowers slots m k ds b F R H C
-      → Settled slots k F R H C F' R' H' C' → LeftBlowers slots m (k - 1) ds b F' R' H' C'
+  pub blowers_next : {k : ℕ} {ds : List Demand} {b : Bounds} {w w' : Words} → 0 < k → LeftBlowers slots m k ds b w
+      → Settled slots k w w' → LeftBlowers slots m (k - 1) ds b w'
   unfolding settle_each
   blowers_next {k = zero} h p s = absurd (omega arith)
-  blowers_next {k = suc k} {ds} {b} {F'} {R'} {H'} {C'} h p s =
+  blowers_next {k = suc k} {ds} {b} {w'} h p s =
       rw (pred k)
       (record {
         bounds = settle_from slots ds (suc k) false slots 0 p.bounds;
@@ -135,12 +139,12 @@ module _ {slots m : ℕ} where
       pred : (k : ℕ) → suc k - 1 ≡ k
       pred k = omega arith
 
-  pub blowers_end : {k : ℕ} {ds : List Demand} {b : Bounds} {F R H C : List ℕ} → k ≡ 0 → LeftBlowers slots m k ds b F R H C → Under slots ds (settle_each slots ds m b) F R H C
+  pub blowers_end : {k : ℕ} {ds : List Demand} {b : Bounds} {w : Words} → k ≡ 0 → LeftBlowers slots m k ds b w → Under slots ds (settle_each slots ds m b) w
   unfolding settle_each
-  blowers_end {k} {ds} {b} {F} {R} {H} {C} e p =
-      subst (λ c. Under slots ds c F R H C) (sym (p.same ∙ ap (λ n. settle_each slots ds n p.bounds) e)) p.under
+  blowers_end {k} {ds} {b} {w} e p =
+      subst (λ c. Under slots ds c w) (sym (p.same ∙ ap (λ n. settle_each slots ds n p.bounds) e)) p.under
 
-  pub passing_day : {k : ℕ} {F₀ R₀ H₀ C₀ F R H C : List ℕ} → SomeDay slots F₀ R₀ H₀ C₀ → PassingBlowers slots m k F₀ R₀ H₀ C₀ F R H C → SomeDay slots F R H C
+  pub passing_day : {k : ℕ} {w₀ w : Words} → SomeDay slots w₀ → PassingBlowers slots m k w₀ w → SomeDay slots w
   passing_day s p =
       let q = p s.demands s.bounds s.under in
       record { demands = s.demands; bounds = q.bounds; under = q.under }

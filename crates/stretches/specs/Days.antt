@@ -1,11 +1,12 @@
--- What planning a whole day requires and ensures. F, R, H and C are words that hold a placing, W and N those of
--- demands, as crate `placing` names them. Definitions only. Assumes nothing.
+-- What planning a whole day requires and ensures. w are words that hold a placing, W and N those of demands, as crate
+-- `placing` names them. Definitions only. Assumes nothing.
 use Rattle.std.specs.Prelude.{◌≡◌, true, false, Result, Ok, Err, List, ℕ, ◌≤◌, ◌<◌, length, get_or, replicate}
 use Rattle.common.specs.Buffers.{padded}
 use Rattle.checks.specs.Limits.{max_slots, max_rations}
 use Rattle.schedules.specs.Schedules.{Demand, feasible}
 use Rattle.schedules.specs.Shortfall.{forced, capacity, critical_set}
 use Rattle.schedules.specs.Tabulate.{tab}
+use Rattle.placing.specs.declared.Words.{Words}
 use Rattle.placing.specs.Represents.{marks_of, DemandWords, SomeDemands, HighWords}
 use Rattle.feedings.specs.CellChoice.{ScheduleWords}
 use Rattle.stretches.specs.declared.DayPlan.{DayPlan}
@@ -15,18 +16,18 @@ use Rattle.method.specs.Feedings.{chosen}
 use Rattle.stretches.specs.Settling.{Under, SomeDay, SamePast}
 
 -- what `choose_day` requires: words that hold some day's placing
-pub record CanChooseDay (slots rations : ℕ) (F R H C : List ℕ) : Type 0 where
-  pub day : SomeDay slots F R H C
+pub record CanChooseDay (slots rations : ℕ) (w : Words) : Type 0 where
+  pub day : SomeDay slots w
   pub short : slots ≤ max_slots
   pub few : rations ≤ max_rations
 
 -- the counts and the feedings of the day that the words held, where no high began above the number m of blowers
-pub record DayChosen (slots m rations : ℕ) (F R H C : List ℕ) (p : DayPlan) : Type 0 where
+pub record DayChosen (slots m rations : ℕ) (w : Words) (p : DayPlan) : Type 0 where
   pub long : length p.counts ≡ max_slots
-  pub past : SamePast slots H p.counts
-  pub counted : (ds : List Demand) (b : Bounds) → Under slots ds b F R H C → ((t : ℕ) → t < slots → get_or b.high t 0 ≤ m)
+  pub past : SamePast slots w.high p.counts
+  pub counted : (ds : List Demand) (b : Bounds) → Under slots ds b w → ((t : ℕ) → t < slots → get_or b.high t 0 ≤ m)
       → (t : ℕ) → t < slots → get_or p.counts t 0 ≡ get_or (loads slots ds m b) t 0
-  pub fed : (ds : List Demand) (b : Bounds) → length ds ≡ rations → Under slots ds b F R H C → ((t : ℕ) → t < slots → get_or b.high t 0 ≤ m)
+  pub fed : (ds : List Demand) (b : Bounds) → length ds ≡ rations → Under slots ds b w → ((t : ℕ) → t < slots → get_or b.high t 0 ≤ m)
       → ScheduleWords (length ds) slots (chosen slots ds (loads slots ds m b)) p.fed
 
 -- the plan of a day of m blowers under a high for each slot: a sound placing exists, and the counts and feedings are

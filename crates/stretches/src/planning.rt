@@ -3,26 +3,25 @@ ghost use Rattle.placing.specs.Rations.{Rations, demands_from};
 ghost use Rattle.stretches.specs.Days.{CanChooseDay, DayChosen, CanPlan, WordsPlanned, SomeHighs, DayUnder};
 
 use crate::{DayPlan, HeldDay, settle};
-use placing::{begin, held, windows};
+use placing::{Words, windows};
 
 // Settles the blowers and chooses the feedings, from words that hold a sound placing.
-fn choose_day(
-    fed: &mut [u64; 96],
-    rest: &mut [u64; 96],
-    high: &mut [u8; 96],
-    spare: &mut [u8; 96],
-    seen: &mut [u8; 96],
-    slots: usize,
-    blowers: u8,
-    rations: usize,
-) -> DayPlan
-    requires { CanChooseDay slots rations fed.old rest.old high.old spare.old }
-    ensures { DayChosen slots blowers rations fed.old rest.old high.old spare.old result }
+fn choose_day(words: &mut Words, slots: usize, blowers: u8, rations: usize) -> DayPlan
+    requires { CanChooseDay slots rations words.old }
+    ensures { DayChosen slots blowers rations words.old result }
 {
-    settle::settle(fed, rest, high, spare, seen, slots, blowers);
-    let counts = *high;
+    settle::settle(words, slots, blowers);
+    let counts = words.high;
     let mut chosen = [0u64; 96];
-    feedings::choose(fed, rest, high, seen, &mut chosen, slots, rations);
+    feedings::choose(
+        &mut words.fed,
+        &mut words.rest,
+        &mut words.high,
+        &mut words.seen,
+        &mut chosen,
+        slots,
+        rations,
+    );
     DayPlan {
         counts,
         fed: chosen,
@@ -43,23 +42,15 @@ pub fn plan_words(
     ensures { WordsPlanned result slots blowers rations windows.now volumes.now
         highs.now }
 {
-    let mut fed = [0u64; 96];
-    let mut rest = [0u64; 96];
-    let mut spare = [0u8; 96];
-    let mut seen = [0u8; 96];
-    if begin::begin(
-        windows, volumes, highs, &mut fed, &mut rest, &mut spare, &mut seen,
-    ) {
-        let mut high = *highs;
-        let plan = choose_day(
-            &mut fed, &mut rest, &mut high, &mut spare, &mut seen, slots, blowers, rations,
-        );
+    let mut words = Words::new();
+    if words.begin(windows, volumes, highs) {
+        let plan = choose_day(&mut words, slots, blowers, rations);
         return Ok(plan);
     }
-    let forced = held::marked_loads(slots, &fed, &seen);
-    let capacity = held::marked_highs(slots, highs, &seen);
+    let forced = words.marked_loads(slots);
+    let capacity = words.marked_highs(slots);
     Err(HeldDay {
-        marks: seen,
+        marks: words.seen,
         forced,
         capacity,
     })

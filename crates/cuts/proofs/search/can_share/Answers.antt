@@ -10,4 +10,4 @@ pub begin_again-can-requires : goal.begin_again-can-requires
 begin_again-can-requires c = can_begin_share c.requires.0 c.args.share c.requires.1 c.cut_sheet-cut.ensures c.volumes_of-volumes.ensures
 
 pub returns : goal.returns
-returns c = record { share_answered = answered c.requires.0 c.args.share c.requires.1 c.cut_sheet-cut.ensures c.volumes_of-volumes.ensures c.begin_again-can.ensures; can_ask_shares = ask_again c.requires.0 c.args.share c.requires.1 c.cut_sheet-cut.ensures c.volumes_of-volumes.ensures c.begin_again-can.ensures }
+returns c = record { share_answered = answered c.requires.0 c.args.share c.requires.1 c.cut_sheet-cut.ensures c.volumes_of-volumes.ensures c.begin_again-can.ensures.begun; can_ask_shares = rw c.begin_again-can.ensures.highs (ask_again c.requires.0 c.args.share c.requires.1 c.cut_sheet-cut.ensures c.volumes_of-volumes.ensures c.begin_again-can.ensures.begun) }

@@ -1,19 +1,19 @@
 -- `cuts::search::greatest_share` meets its contract: the greatest share lies between the two ends, and while more than
 -- one share is left, so is a question. Assumes nothing.
-use mathlib.Core.Path.{refl}
+use Rattle.std.proofs.Common.{ap}
 use Rattle.placing.specs.RationLaws.{rations_longest}
 use Rattle.cuts.proofs.SearchSteps.{ask_first, sheet_rations, few_blowers, none_beyond, ends_begin, ends_most, ends_apart, ends_met, question_left}
 use native.Mathlib.Omega.{arith}
 use Rattle.cuts.proofs.search.greatest_share.Goals as goal
 
 pub mark_windows-requires : goal.mark_windows-requires
-mark_windows-requires c = (rations_longest (sheet_rations c.requires), refl)
+mark_windows-requires c = (rations_longest (sheet_rations c.requires), ap (λ w. w.rest) c.new-words.ensures)
 
 pub overflow_cast-sheet-2 : goal.overflow_cast-sheet-2
 overflow_cast-sheet-2 c = omega (arith, few_blowers c.requires)
 
 pub set_highs-requires : goal.set_highs-requires
-set_highs-requires c = ((sheet_rations c.requires).short, refl)
+set_highs-requires c = ((sheet_rations c.requires).short, ap (λ w. w.high) c.new-words.ensures)
 
 pub spread_share-low-requires : goal.spread_share-low-requires
 spread_share-low-requires c = c.requires
@@ -28,7 +28,7 @@ least_deficient-high-requires c = let p = c.requires in
 pub loop-low-init : goal.loop-low-init
 loop-low-init c = let p = c.requires in
     let e = c.least_deficient-high.ensures in (
-      ask_first p c.set_highs.ensures c.mark_windows.ensures,
+      rw (ap (λ w. w.fed) c.new-words.ensures) (ask_first p c.set_highs.ensures c.mark_windows.ensures),
       ends_begin p e.1 e.2 c.spread_share-low.ensures.0 e.0,
       omega arith,
       omega (arith, e.2),

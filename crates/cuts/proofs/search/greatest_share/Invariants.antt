@@ -5,7 +5,7 @@ use Rattle.cuts.specs.Clauses.{CanAskShares, ReadBetween}
 use Rattle.cuts.proofs.search.greatest_share.Given as goal
 
 abbrev pub invariant-loop-low : goal.invariant-loop-low
-invariant-loop-low l = CanAskShares l.sheet l.highs l.placed l.fed l.rest × ReadBetween l.sheet l.low l.high × (l.left ≤ 7) × (l.high ≤ l.low + 2 ^ l.left)
+invariant-loop-low l = CanAskShares l.sheet l.words.high l.placed l.words.fed l.words.rest × ReadBetween l.sheet l.low l.high × (l.left ≤ 7) × (l.high ≤ l.low + 2 ^ l.left)
 
 abbrev pub decreases-loop-low : goal.decreases-loop-low
 decreases-loop-low l = l.left

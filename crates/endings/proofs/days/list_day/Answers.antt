@@ -1,5 +1,5 @@
 -- `endings::days::list_day` meets its contract. Assumes nothing.
-use mathlib.Core.Path.{refl}
+use Rattle.std.proofs.Common.{refl, ap, length}
 use Rattle.placing.specs.RationLaws.{rations_longest}
 use Rattle.placing.specs.WordLaws.{windows_of_day, volumes_of_day}
 use Rattle.endings.specs.DayCauseLaws.{day_begin, can_list, day_listed, day_held}
@@ -16,7 +16,8 @@ set_highs-requires c = (c.requires.0.short, refl)
 
 pub begin-requires : goal.begin-requires
 begin-requires c = let r = c.requires.0 in
-    day_begin c.args.blowers r c.set_highs.ensures (windows_of_day r c.mark_windows.ensures) (volumes_of_day r c.volumes_of-volumes.ensures) refl
+    day_begin c.args.blowers r c.set_highs.ensures (windows_of_day r c.mark_windows.ensures) (volumes_of_day r c.volumes_of-volumes.ensures)
+    (ap (λ w. length w.spare) c.new-words.ensures)
 
 pub list_stretches-listed-requires : goal.list_stretches-listed-requires
 list_stretches-listed-requires c = let r = c.requires.0 in

@@ -17,4 +17,4 @@ pub shape_of-out : goal.shape_of-out
 shape_of-out c = c.append-extent.ensures.same_length
 
 pub returns : goal.returns
-returns c = advanced_ends c.requires (rw c.in-No.is at c.step.ensures) c.append-extent.ensures
+returns c = advanced_ends c.requires (rw c.in-Err.is at c.step.ensures) c.append-extent.ensures

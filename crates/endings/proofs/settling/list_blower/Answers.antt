@@ -1,6 +1,4 @@
 -- `endings::settling::list_blower` meets its contract. Assumes nothing.
-use Prim.Native.Nat.{◌-◌}
-use native.Mathlib.Omega.{arith}
 use Rattle.endings.specs.ListingSteps.{blower_begin, blower_advance, blower_next, blower_end}
 use Rattle.endings.proofs.settling.list_blower.Goals as goal
 
@@ -9,12 +7,6 @@ loop-t-init c = blower_begin c.requires.0 c.requires.1
 
 pub advance-progress-requires : goal.advance-progress-requires
 advance-progress-requires c = blower_advance c.loop-t.invariant c.loop-t-test.true
-
-pub overflow_step-t : goal.overflow_step-t
-overflow_step-t c = omega (arith, c.loop-t-test.true)
-
-pub loop-t-smaller : goal.loop-t-smaller
-loop-t-smaller c = omega (arith, c.loop-t-test.true)
 
 pub loop-t-preserved : goal.loop-t-preserved
 loop-t-preserved c = blower_next c.loop-t.invariant c.loop-t-test.true c.advance-progress.ensures

@@ -4,28 +4,22 @@ use Rattle.endings.specs.ListingSteps.{blowers_begin, blowers_list, blowers_cut,
 use Rattle.endings.proofs.settling.list_stretches.Goals as goal
 
 pub loop-k-init : goal.loop-k-init
-loop-k-init c = (omega arith, blowers_begin c.requires)
+loop-k-init c = blowers_begin c.requires
 
 pub shape_of-out-then-so_far : goal.shape_of-out-then-so_far
-shape_of-out-then-so_far c = c.loop-k.invariant.1.same_length
+shape_of-out-then-so_far c = c.loop-k.invariant.same_length
 
 pub returns-then-so_far : goal.returns-then-so_far
-returns-then-so_far c = blowers_cut c.loop-k.invariant.1 c.if-so_far.true
+returns-then-so_far c = blowers_cut c.loop-k.invariant c.if-so_far.true
 
 pub list_blower-so_far-requires : goal.list_blower-so_far-requires
-list_blower-so_far-requires c = (blowers_list c.loop-k.invariant.1, c.loop-k-test.true)
-
-pub overflow_sub-k : goal.overflow_sub-k
-overflow_sub-k c = omega (arith, c.loop-k-test.true)
-
-pub loop-k-smaller : goal.loop-k-smaller
-loop-k-smaller c = omega (arith, c.loop-k-test.true)
+list_blower-so_far-requires c = (blowers_list c.loop-k.invariant, c.loop-k-test.true)
 
 pub loop-k-preserved : goal.loop-k-preserved
-loop-k-preserved c = (omega (arith, c.loop-k.invariant.0), blowers_next c.loop-k-test.true c.loop-k.invariant.1 c.list_blower-so_far.ensures)
+loop-k-preserved c = blowers_next c.loop-k-test.true c.loop-k.invariant c.list_blower-so_far.ensures
 
 pub shape_of-out : goal.shape_of-out
-shape_of-out c = c.loop-k.invariant.1.same_length
+shape_of-out c = c.loop-k.invariant.same_length
 
 pub returns : goal.returns
-returns c = blowers_end c.loop-k.invariant.1 (omega (arith, c.loop-k-test.false))
+returns c = blowers_end c.loop-k.invariant (omega (arith, c.loop-k-test.false))

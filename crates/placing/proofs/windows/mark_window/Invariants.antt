@@ -6,6 +6,3 @@ use Rattle.placing.proofs.windows.mark_window.Given as goal
 
 abbrev pub invariant-loop-t : goal.invariant-loop-t
 invariant-loop-t l = AddedTo (2 ^ l.j) l.release l.deadline l.t l.initial.windows l.windows
-
-abbrev pub decreases-loop-t : goal.decreases-loop-t
-decreases-loop-t l = l.deadline - l.t

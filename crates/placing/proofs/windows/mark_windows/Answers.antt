@@ -9,44 +9,14 @@ use Rattle.placing.proofs.windows.mark_windows.Goals as goal
 pub loop-j-init : goal.loop-j-init
 loop-j-init c = (omega arith, subst (WindowsTo max_slots c.args.numbers.now 0) (sym c.requires.1) (windows_begin max_slots c.args.numbers.now))
 
-pub overflow_mul-at : goal.overflow_mul-at
-overflow_mul-at c = omega arith
-
-pub overflow_cast-j : goal.overflow_cast-j
-overflow_cast-j c = omega arith
-
-pub overflow_add-at : goal.overflow_add-at
-overflow_add-at c = omega arith
-
-pub offset_bounds-numbers-at : goal.offset_bounds-numbers-at
-offset_bounds-numbers-at c = omega arith
-
-pub bounds-numbers-at : goal.bounds-numbers-at
-bounds-numbers-at c = omega arith
-
 pub overflow_cast-numbers : goal.overflow_cast-numbers
 overflow_cast-numbers c = omega (arith, windows_can _ _ _ c.requires.0 c.loop-j.j (omega arith) _ c.loop-j.invariant.1)
-
-pub overflow_add-at-in-loop-j : goal.overflow_add-at-in-loop-j
-overflow_add-at-in-loop-j c = omega arith
-
-pub offset_bounds-numbers-at-in-loop-j : goal.offset_bounds-numbers-at-in-loop-j
-offset_bounds-numbers-at-in-loop-j c = omega arith
-
-pub bounds-numbers-at-in-loop-j : goal.bounds-numbers-at-in-loop-j
-bounds-numbers-at-in-loop-j c = omega arith
 
 pub overflow_cast-numbers-in-loop-j : goal.overflow_cast-numbers-in-loop-j
 overflow_cast-numbers-in-loop-j c = omega (arith, windows_can _ _ _ c.requires.0 c.loop-j.j (omega arith) _ c.loop-j.invariant.1)
 
 pub mark_window-requires : goal.mark_window-requires
 mark_window-requires c = windows_can _ _ _ c.requires.0 _ (omega arith) _ c.loop-j.invariant.1
-
-pub overflow_add-j : goal.overflow_add-j
-overflow_add-j c = omega arith
-
-pub loop-j-smaller : goal.loop-j-smaller
-loop-j-smaller c = omega arith
 
 pub loop-j-preserved : goal.loop-j-preserved
 loop-j-preserved c = (omega arith, windows_next _ _ _ c.requires.0 _ (omega arith) _ c.loop-j.invariant.1 _ c.mark_window.ensures)

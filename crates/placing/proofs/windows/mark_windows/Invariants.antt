@@ -6,6 +6,3 @@ use Rattle.placing.proofs.windows.mark_windows.Given as goal
 
 abbrev pub invariant-loop-j : goal.invariant-loop-j
 invariant-loop-j l = (l.j ≤ l.n) × WindowsTo max_slots l.numbers l.j l.windows
-
-abbrev pub decreases-loop-j : goal.decreases-loop-j
-decreases-loop-j l = l.n - l.j

@@ -7,6 +7,3 @@ use Rattle.placing.proofs.windows.volumes_of.Given as goal
 
 abbrev pub invariant-loop-j : goal.invariant-loop-j
 invariant-loop-j l = (l.j ≤ l.n) × FilledTo max_rations (volume_at l.numbers) l.j l.volumes
-
-abbrev pub decreases-loop-j : goal.decreases-loop-j
-decreases-loop-j l = l.n - l.j

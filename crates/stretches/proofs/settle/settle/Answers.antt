@@ -5,19 +5,13 @@ use native.Mathlib.Omega.{arith}
 use Rattle.stretches.proofs.settle.settle.Goals as goal
 
 pub loop-k-init : goal.loop-k-init
-loop-k-init c = (omega arith, c.requires, λ ds b u. blowers_begin u, λ u l. refl)
+loop-k-init c = (c.requires, λ ds b u. blowers_begin u, λ u l. refl)
 
 pub settle_blower-requires : goal.settle_blower-requires
-settle_blower-requires c = (passing_day c.loop-k.invariant.1 c.loop-k.invariant.2, omega arith)
-
-pub overflow_sub-k : goal.overflow_sub-k
-overflow_sub-k c = omega arith
-
-pub loop-k-smaller : goal.loop-k-smaller
-loop-k-smaller c = omega arith
+settle_blower-requires c = (passing_day c.loop-k.invariant.0 c.loop-k.invariant.1, c.loop-k-test.true)
 
 pub loop-k-preserved : goal.loop-k-preserved
-loop-k-preserved c = (omega arith, c.loop-k.invariant.1, λ ds b u. blowers_next (omega arith) (c.loop-k.invariant.2 ds b u) c.settle_blower.ensures, λ u l. c.settle_blower.ensures.past u l ∙ c.loop-k.invariant.3 u l)
+loop-k-preserved c = (c.loop-k.invariant.0, λ ds b u. blowers_next c.loop-k-test.true (c.loop-k.invariant.1 ds b u) c.settle_blower.ensures, λ u l. c.settle_blower.ensures.past u l ∙ c.loop-k.invariant.2 u l)
 
 pub returns : goal.returns
-returns c = record { settled = λ ds b u. blowers_end (omega arith) (c.loop-k.invariant.2 ds b u); past = c.loop-k.invariant.3 }
+returns c = record { settled = λ ds b u. blowers_end (omega (arith, c.loop-k-test.false)) (c.loop-k.invariant.1 ds b u); past = c.loop-k.invariant.2 }

@@ -4,7 +4,4 @@ use Rattle.stretches.specs.Settling.{SomeDay, SamePast, PassingBlowers}
 use Rattle.stretches.proofs.settle.settle.Given as goal
 
 abbrev pub invariant-loop-k : goal.invariant-loop-k
-invariant-loop-k l = (l.k ≤ l.blowers) × SomeDay l.slots l.initial.fed l.initial.rest l.initial.high l.initial.spare × PassingBlowers l.slots l.blowers l.k l.initial.fed l.initial.rest l.initial.high l.initial.spare l.fed l.rest l.high l.spare × SamePast l.slots l.initial.high l.high
-
-abbrev pub decreases-loop-k : goal.decreases-loop-k
-decreases-loop-k l = l.k
+invariant-loop-k l = SomeDay l.slots l.initial.words × PassingBlowers l.slots l.blowers l.k l.initial.words l.words × SamePast l.slots l.initial.words.high l.words.high
