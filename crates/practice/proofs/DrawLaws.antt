@@ -1,18 +1,9 @@
 -- The next seed by its product and sum, draws that follow others, and what three draws make. Assumes nothing.
-use Rattle.std.specs.Prelude.{◌≡◌, ℕ, zero, suc, ◌+◌, ◌-◌, ◌*◌, ◌/◌, ◌%◌, ◌^◌, ◌<◌, ◌≤◌, List, length, slice_set}
+use Rattle.std.specs.Prelude.{◌≡◌, ℕ, zero, suc, ◌+◌, ◌-◌, ◌/◌, ◌%◌, ◌<◌, ◌≤◌, [], ◌∷◌}
 use Rattle.std.proofs.Math.Path.{ap}
 use Rattle.std.proofs.Common.{◌∙◌, mod-lt, arith}
-use Rattle.std.proofs.Math.Nat.{mod-add-mod}
-use Rattle.common.specs.Buffers.{put_at}
-use Rattle.common.specs.BufferLaws.{set_four}
-use Rattle.line.specs.Layout.{fields}
 use Rattle.checks.specs.Sheet.{job_numbers}
 use Rattle.practice.specs.Practice.{next_seed, seed_after, draw, drawn_job}
-
--- a product that is cut to 32 bits, and a sum that is cut
-pub next_from : (s p n : ℕ) → p ≡ (1664525 * s) % 2 ^ 32 → n ≡ (p + 1013904223) % 2 ^ 32 → n ≡ next_seed s
-unfolding next_seed
-next_from s p n e f = f ∙ ap (λ z. (z + 1013904223) % 2 ^ 32) e ∙ mod-add-mod (1664525 * s) (2 ^ 32) 1013904223
 
 -- i draws, and k more
 pub seed_after_add : (s k i : ℕ) → seed_after (seed_after s i) k ≡ seed_after s (i + k)
@@ -56,12 +47,12 @@ module _ (s s₁ s₂ s₃ r₁ r₂ r₃ : ℕ) (f₁ : r₁ ≡ next_seed s / 
   three_drawn h i j =
       (h ∙ ap (λ z. 1 + z % 8) first_draw, i ∙ ap (λ z. z % 201) second_draw, j ∙ ap (λ z. z % 65) third_draw)
 
-  -- the four numbers of a ration, put one after another
-  pub ration_put : (tank at : ℕ) (old : List ℕ) → at + fields ≤ length old → let first = 1 + r₁ % 96 in
+  -- the four numbers of a ration
+  pub ration_drawn : (tank : ℕ) → let first = 1 + r₁ % 96 in
       let last = first + r₂ % (97 - first) in let volume = 1 + r₃ % (last + 1 - first) in
-      slice_set (slice_set (slice_set (slice_set old at tank) (at + 1) first) (at + 2) last) (at + 3) volume ≡ put_at at (job_numbers (drawn_job s tank)) old
+      tank ∷ first ∷ last ∷ volume ∷ [] ≡ job_numbers (drawn_job s tank)
   unfolding drawn_job
-  ration_put tank at old h = rw (first_draw, second_draw, third_draw) (set_four at tank _ _ _ old h)
+  ration_drawn tank = rw (first_draw, second_draw, third_draw)
 
 -- the window's last slot, and the volume
 module _ (r₁ r₂ : ℕ) where

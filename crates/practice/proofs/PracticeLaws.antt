@@ -1,8 +1,8 @@
 -- The values of a practice sheet are in range; how they are drawn, ration after ration, and what the writer makes of
 -- them. Assumes nothing.
-use Rattle.std.specs.Prelude.{◌≡◌, ℕ, zero, suc, ◌+◌, ◌-◌, ◌*◌, ◌%◌, ◌<◌, ◌≤◌, true, List, [], ◌++◌, map, length, take, replicate, ◌==◌, nat_eq, nat_lt, refl}
+use Rattle.std.specs.Prelude.{◌≡◌, ℕ, zero, suc, ◌+◌, ◌-◌, ◌*◌, ◌%◌, ◌<◌, ◌≤◌, true, List, [], ◌++◌, map, length, take, drop, replicate, ◌==◌, nat_eq, nat_lt, refl}
 use Rattle.std.proofs.Math.Path.{sym, ap, ap₂}
-use Rattle.std.proofs.Common.{subst₂, ◌∙◌, mod-lt, eq-eqb, le-ltb}
+use Rattle.std.proofs.Common.{subst₂, ◌∙◌, drop-drop, mod-lt, eq-eqb, le-ltb}
 use native.Mathlib.Omega.{arith}
 use Rattle.std.proofs.lemmas.List.{length-replicate}
 use Rattle.common.specs.Lists.{range, part}
@@ -124,6 +124,22 @@ module _ (seed n : ℕ) where
       where
         three : 3 * (i + 1) + 3 ≡ 3 * (i + 1 + 1)
         three = omega arith
+
+    -- four numbers written into their part of the array
+    pub drawing_put : i < n → (four numbers' : List ℕ) (s' : ℕ) → four ≡ job_numbers (drawn_job s (i + 1))
+        → numbers' ≡ take (fields * i) numbers ++ (four ++ drop (fields * (i + 1) - fields * i) (drop (fields * i) numbers))
+        → s' ≡ seed_after s 3 → Drawing seed n numbers' s' (i + 1)
+    unfolding put_at
+    drawing_put l four numbers' s' e p q = drawing_next l numbers' s' (p ∙ put) q
+      where
+        size : (i : ℕ) → fields * (i + 1) - fields * i ≡ fields
+        size i = omega arith
+
+        put : take (fields * i) numbers ++ (four ++ drop (fields * (i + 1) - fields * i) (drop (fields * i) numbers))
+            ≡ put_at (fields * i) (job_numbers (drawn_job s (i + 1))) numbers
+        put =
+            ap₂ (λ (x : List ℕ) (k : ℕ). take (fields * i) numbers ++ (x ++ drop k (drop (fields * i) numbers))) e (size i)
+            ∙ ap (λ (r : List ℕ). take (fields * i) numbers ++ (job_numbers (drawn_job s (i + 1)) ++ r)) (drop-drop fields (fields * i) numbers)
 
     pub drawing_end : i ≡ n → RationsFrom seed n numbers
     drawing_end e first f = (h.drawn first f).1 ∙ ap (λ k. padded (fields * max_rations) (numbers_to (practice_job first) k)) e

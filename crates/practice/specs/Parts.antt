@@ -1,15 +1,10 @@
 -- What the functions within the crate require and ensure. Definitions only.
-use Rattle.std.specs.Prelude.{◌≡◌, ℕ, ◌+◌, ◌*◌, ◌≤◌, List, length}
+use Rattle.std.specs.Prelude.{◌≡◌, ℕ, ◌*◌, List}
 use Rattle.common.specs.Buffers.{padded}
 use Rattle.line.specs.Layout.{fields}
 use Rattle.checks.specs.Limits.{max_rations}
 use Rattle.checks.specs.Sheet.{numbers_to}
 use Rattle.practice.specs.Practice.{seed_after, practice_job}
-
--- the flat numbers have room for four at a place
-pub record CanPutRation (numbers : List ℕ) (at : ℕ) : Type 0 where
-  pub long : length numbers ≡ fields * max_rations
-  pub room : at + fields ≤ fields * max_rations
 
 -- s comes after the three draws of a seed's head line: the numbers are those of its first n rations
 abbrev pub RationsFrom : (s n : ℕ) → List ℕ → Type 0

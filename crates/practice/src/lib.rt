@@ -6,7 +6,6 @@
 #![tactic(auto)]
 
 mod draws;
-mod product;
 mod rations;
 mod seeds;
 pub mod sizes;

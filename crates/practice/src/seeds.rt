@@ -9,14 +9,8 @@ use line::layout::{NEWLINE, WIDTH};
 pub fn seed_faulty(b: &[u8]) -> bool
     ensures { result ≡ faulty_seed b.now }
 {
-    if b.len() != WIDTH + 1 {
-        return true;
-    }
-    if line::field_faulty(b, 0) {
-        return true;
-    }
-    if MAX_SEED < line::field_number(b, 0) {
-        return true;
-    }
-    b[WIDTH] != NEWLINE
+    b.len() != WIDTH + 1
+        || line::field_faulty(b, 0)
+        || MAX_SEED < line::field_number(b, 0)
+        || b[WIDTH] != NEWLINE
 }
