@@ -57,7 +57,7 @@ fn is_deficient(share: u32, sheet: Reading, marks: &[u8]) -> bool
     ensures { result ≡ true → ReadNone sheet share }
 {
     let cut = cutting::cut_sheet(share, sheet);
-    let answer = questions::shortfall_of(cut, marks);
+    let answer = questions::shortfall_of_reading(cut, marks);
     is_above_zero(answer.shortfall)
 }
 

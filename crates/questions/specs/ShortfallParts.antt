@@ -1,5 +1,5 @@
 -- What the functions under the call `shortfall` require and ensure. Definitions only. Assumes nothing.
-use Rattle.std.specs.Prelude.{◌≡◌, List, ℕ, ◌-◌, ◌*◌, ◌≤◌, ◌<◌, length}
+use Rattle.std.specs.Prelude.{◌≡◌, Result, Ok, Err, ℤ, pos, List, ℕ, ◌-◌, ◌*◌, ◌≤◌, ◌<◌, length}
 use Rattle.line.specs.Layout.{fields}
 use Rattle.checks.specs.Limits.{max_slots, max_rations}
 use Rattle.placing.specs.Rations.{release_at, deadline_at, volume_at}
@@ -27,6 +27,11 @@ pub record CanForce (before : List ℕ) (n : ℕ) (numbers : List ℕ) : Type 0 
   pub long : length numbers ≡ fields * max_rations
   pub small : (j : ℕ) → j < n → volume_at numbers j ≤ max_slots
   pub windows : (j : ℕ) → j < n → CanCount before (release_at numbers j) (deadline_at numbers j)
+
+-- a shortfall, or the refusal, as an answer
+abbrev pub as_shortfall : Result ℤ Refusal → ShortfallAnswer
+as_shortfall (Ok x) = record { number = 0; line = 0; shortfall = x }
+as_shortfall (Err r) = record { number = r.number; line = r.line; shortfall = pos 0 }
 
 -- the answer is that of whatever sheet was read
 abbrev pub ReadShortfall : Reading → List ℕ → ShortfallAnswer → Type 0

@@ -11,9 +11,9 @@ mod shortfalls;
 pub use question::bounds;
 pub use shortfalls::shortfall;
 
-// for the layers above: they ask for a reading
+// for the layers above: they take what was read, and `shortfall_on` an accepted sheet
 pub use question::bounds_of;
-pub use shortfalls::shortfall_of;
+pub use shortfalls::{shortfall_of, shortfall_of_reading, shortfall_on};
 
 // What `shortfall` answers: forced minus capacity, below zero where capacity is spare; 0 on a refusal.
 #[repr(C)]

@@ -3,14 +3,15 @@ ghost use Rattle.std.specs.Prelude.{◌≡◌, ◌-◌, ◌*◌, ◌≤◌};
 ghost use Rattle.std.proofs.Math.IntN.{sub_ℕ};
 ghost use Rattle.checks.specs.Limits.{max_slots, max_blowers, max_rations};
 ghost use Rattle.sheet.specs.OwnChecks.{SomeReading};
+ghost use Rattle.sheet.specs.FeedSheets.{sheet_reading, as_reading};
 ghost use Rattle.questions.specs.Calls.{shortfall_of};
 ghost use Rattle.marks.specs.Counts.{unmarked_in};
-ghost use Rattle.questions.specs.ShortfallParts.{forced_by, CanForce, ReadShortfall};
+ghost use Rattle.questions.specs.ShortfallParts.{forced_by, CanForce, as_shortfall, ReadShortfall};
 ghost use Rattle.marks.specs.Parts.{CanCount};
 
 use crate::ShortfallAnswer;
-use checks::refusals::BAD_LIST;
-use sheet::Reading;
+use checks::{Fault, Refusal};
+use sheet::{FeedSheet, Reading};
 
 // What one ration is forced to take: the larger of 0 and its volume less the slots of its window that are not marked. `before` has the marks counted
 // from slot 1 on.
@@ -18,11 +19,7 @@ fn forced_of(before: &[u32; 97], release: u32, deadline: u32, volume: u32) -> u3
     requires { CanCount before.now release deadline }
     ensures { result ≡ volume - unmarked_in before.now release deadline }
 {
-    let free = marks::unmarked_in(before, release, deadline);
-    if volume < free {
-        return 0;
-    }
-    volume - free
+    volume.saturating_sub(marks::unmarked_in(before, release, deadline))
 }
 
 // forced(Q): the sum over n rations. Two counts for each, however long its window is.
@@ -31,11 +28,9 @@ fn forced(before: &[u32; 97], n: usize, numbers: &[u32; 256]) -> u32
     ensures { result ≡ forced_by before.now n numbers.now }
 {
     let mut sum = 0;
-    let mut j = 0;
-    while j < n {
+    for j in 0..n {
         let at = 4 * j;
         sum += forced_of(before, numbers[at + 1], numbers[at + 2], numbers[at + 3]);
-        j += 1;
     }
     sum
 }
@@ -48,9 +43,65 @@ fn difference(a: u32, b: u32) -> i32
     a as i32 - b as i32
 }
 
-// The shortfall of the marked slots of the day of a sheet that was read, high being the blowers in every slot: number 0
-// and forced minus capacity; or the number and the line of the first refusal and 0.
-pub fn shortfall_of(sheet: Reading, marks: &[u8]) -> ShortfallAnswer
+// The shortfall of the marked slots of the day of an accepted sheet, high being the blowers in every slot: forced minus
+// capacity.
+pub fn shortfall_on(sheet: &FeedSheet, marks: &[u8]) -> Result<i32, Refusal>
+    ensures { ReadShortfall (sheet_reading sheet.now) marks.now (as_shortfall result) }
+{
+    let slots = sheet.slots as usize;
+    if marks::is_faulty(slots, marks) {
+        return Err(Fault::List.on(0));
+    }
+    let before = marks::counts_before(marks);
+    let forced = forced(&before, sheet.rations as usize, &sheet.numbers);
+    // |Q| × m: the last count is that of the whole day.
+    let capacity = before[slots] * sheet.blowers;
+    Ok(difference(forced, capacity))
+}
+
+// A shortfall has number 0, a refusal its number and line and 0.
+impl From<Result<i32, Refusal>> for ShortfallAnswer {
+    ghost from_gives = { λ shortfall answer. answer ≡ as_shortfall shortfall };
+
+    fn from(shortfall: Result<i32, Refusal>) -> ShortfallAnswer {
+        match shortfall {
+            Ok(shortfall) => ShortfallAnswer {
+                number: 0,
+                line: 0,
+                shortfall,
+            },
+            Err(refusal) => ShortfallAnswer {
+                number: refusal.number,
+                line: refusal.line,
+                shortfall: 0,
+            },
+        }
+    }
+}
+
+// The same of a sheet that was read.
+fn read_shortfall(sheet: Result<FeedSheet, Refusal>, marks: &[u8]) -> Result<i32, Refusal>
+    ensures { ReadShortfall (as_reading sheet) marks.now (as_shortfall result) }
+{
+    shortfall_on(&sheet?, marks)
+}
+
+// The same as an answer: number 0 and the shortfall; or the number and the line of the first refusal and 0.
+pub fn shortfall_of(sheet: Result<FeedSheet, Refusal>, marks: &[u8]) -> ShortfallAnswer
+    ensures { ReadShortfall (as_reading sheet) marks.now result }
+{
+    ShortfallAnswer::from(read_shortfall(sheet, marks))
+}
+
+// The shortfall of the marked slots of a sheet's day, from its bytes. Nothing lent is changed.
+pub fn shortfall(b: &[u8], marks: &[u8]) -> ShortfallAnswer
+    ensures { result ≡ shortfall_of b.now marks.now }
+{
+    shortfall_of(sheet::read_sheet(b), marks)
+}
+
+// The same of a reading, until crate cuts hands over accepted sheets.
+pub fn shortfall_of_reading(sheet: Reading, marks: &[u8]) -> ShortfallAnswer
     requires { SomeReading sheet }
     ensures { ReadShortfall sheet marks.now result }
 {
@@ -64,7 +115,7 @@ pub fn shortfall_of(sheet: Reading, marks: &[u8]) -> ShortfallAnswer
     let slots = sheet.slots as usize;
     if marks::is_faulty(slots, marks) {
         return ShortfallAnswer {
-            number: BAD_LIST,
+            number: 11,
             line: 0,
             shortfall: 0,
         };
@@ -72,18 +123,10 @@ pub fn shortfall_of(sheet: Reading, marks: &[u8]) -> ShortfallAnswer
     let before = marks::counts_before(marks);
     let numbers = sheet.numbers;
     let f = forced(&before, sheet.rations as usize, &numbers);
-    // |Q| × m: the last count is that of the whole day.
     let capacity = before[slots] * sheet.blowers;
     ShortfallAnswer {
         number: 0,
         line: 0,
         shortfall: difference(f, capacity),
     }
-}
-
-// The shortfall of the marked slots of a sheet's day, from its bytes. Nothing lent is changed.
-pub fn shortfall(b: &[u8], marks: &[u8]) -> ShortfallAnswer
-    ensures { result ≡ shortfall_of b.now marks.now }
-{
-    shortfall_of(sheet::read(b), marks)
 }

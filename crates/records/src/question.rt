@@ -5,7 +5,6 @@ ghost use Rattle.records.specs.Records.{record_sheet, record_faults};
 
 use crate::{Ration, readings};
 use questions::BoundsAnswer;
-use sheet::Reading;
 
 // The bounds question on the day of a record for each ration: what `questions::bounds` answers to the sheet that these records make.
 #[unsafe(no_mangle)]
@@ -19,6 +18,6 @@ pub extern "C" fn kiwimound_bounds_rations(
 ) -> BoundsAnswer
     ensures { result ≡ bounds_for (record_faults (record_sheet slots blowers wake rations.now)) (record_sheet slots blowers wake rations.now) lows.now highs.now }
 {
-    let reading = Reading::from(readings::read_rations(slots, blowers, wake, rations));
-    questions::bounds_of(reading, lows, highs)
+    let sheet = readings::read_rations(slots, blowers, wake, rations);
+    questions::bounds_of(sheet, lows, highs)
 }

@@ -5,7 +5,6 @@ ghost use Rattle.records.specs.Records.{record_sheet, record_faults};
 
 use crate::{Ration, readings};
 use questions::ShortfallAnswer;
-use sheet::Reading;
 
 // The shortfall of the marked slots of the day of a record for each ration: what `questions::shortfall` answers to the sheet that these records make.
 #[unsafe(no_mangle)]
@@ -18,6 +17,6 @@ pub extern "C" fn kiwimound_shortfall_rations(
 ) -> ShortfallAnswer
     ensures { result ≡ shortfall_for (record_faults (record_sheet slots blowers wake rations.now)) (record_sheet slots blowers wake rations.now) marks.now }
 {
-    let reading = Reading::from(readings::read_rations(slots, blowers, wake, rations));
-    questions::shortfall_of(reading, marks)
+    let sheet = readings::read_rations(slots, blowers, wake, rations);
+    questions::shortfall_of(sheet, marks)
 }

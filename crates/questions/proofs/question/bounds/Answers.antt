@@ -3,9 +3,6 @@ use Rattle.sheet.proofs.OwnCheckLaws.{bytes_read}
 use Rattle.questions.specs.Calls.{bounds_of}
 use Rattle.questions.proofs.question.bounds.Goals as goal
 
-pub bounds_of-requires : goal.bounds_of-requires
-bounds_of-requires c = record { own = _; sheet = _; read = bytes_read _ c.read.ensures }
-
 pub returns : goal.returns
 unfolding bounds_of
-returns c = c.bounds_of.ensures _ _ (bytes_read _ c.read.ensures)
+returns c = c.bounds_of.ensures _ _ (bytes_read _ c.read_sheet.ensures)

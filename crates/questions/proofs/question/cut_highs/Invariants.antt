@@ -1,13 +1,8 @@
 -- `questions::question::cut_highs` meets its contract: after t slots it has their highs, cut. Assumes nothing.
-use Prim.Native.Nat.{◌-◌, ◌≤◌}
-use lib.ListN.{length}
 use Rattle.checks.specs.Limits.{max_slots}
 use Rattle.common.specs.FillLaws.{FilledTo}
 use Rattle.questions.specs.BoundsSteps.{cut_at}
 use Rattle.questions.proofs.question.cut_highs.Given as goal
 
 abbrev pub invariant-loop-t : goal.invariant-loop-t
-invariant-loop-t l = (l.t ≤ length l.highs) × FilledTo max_slots (cut_at l.blowers l.highs) l.t l.cuts
-
-abbrev pub decreases-loop-t : goal.decreases-loop-t
-decreases-loop-t l = length l.highs - l.t
+invariant-loop-t l = FilledTo max_slots (cut_at l.blowers l.highs) l.t l.cuts

@@ -1,12 +1,13 @@
 -- `questions::question::is_faulty` meets its contract. Assumes nothing.
-use borrow.Author.Tests.{eq-eqb, ne_eqb}
+use Rattle.std.proofs.Common.{arith}
+use Rattle.std.proofs.lemmas.Grind.{common_steps}
 use Rattle.questions.specs.Calls.{bounds_fault}
 use Rattle.questions.proofs.question.is_faulty.Goals as goal
 
 pub returns-then-lows-slots : goal.returns-then-lows-slots
 unfolding bounds_fault
-returns-then-lows-slots c = simp (ne_eqb _ _ c.if-lows-slots.true)
+returns-then-lows-slots c = grind (arith, common_steps)
 
-pub returns : goal.returns
+pub returns-else-lows-slots : goal.returns-else-lows-slots
 unfolding bounds_fault
-returns c = simp (eq-eqb _ _ c.if-lows-slots.false)
+returns-else-lows-slots c = grind (arith, common_steps)

@@ -1,12 +1,8 @@
 -- `questions::shortfalls::forced` meets its contract: after j rations it has the sum of what they are forced to feed. Assumes nothing.
 use mathlib.Core.Path.{◌≡◌}
-use Prim.Native.Nat.{◌-◌, ◌≤◌}
 use Rattle.theory.specs.Sums as S
 use Rattle.questions.specs.ShortfallParts.{forced_at}
 use Rattle.questions.proofs.shortfalls.forced.Given as goal
 
 abbrev pub invariant-loop-j : goal.invariant-loop-j
-invariant-loop-j l = (l.j ≤ l.n) × (l.sum ≡ S.sum l.j (forced_at l.before l.numbers))
-
-abbrev pub decreases-loop-j : goal.decreases-loop-j
-decreases-loop-j l = l.n - l.j
+invariant-loop-j l = l.sum ≡ S.sum l.j (forced_at l.before l.numbers)
