@@ -1,9 +1,15 @@
 -- The next seed by its product and sum, draws that follow others, and what three draws make. Assumes nothing.
-use Rattle.std.specs.Prelude.{◌≡◌, ℕ, zero, suc, ◌+◌, ◌-◌, ◌/◌, ◌%◌, ◌<◌, ◌≤◌, [], ◌∷◌}
+use Rattle.std.specs.Prelude.{◌≡◌, ℕ, zero, suc, ◌+◌, ◌-◌, ◌*◌, ◌/◌, ◌%◌, ◌^◌, ◌<◌, ◌≤◌, [], ◌∷◌}
 use Rattle.std.proofs.Math.Path.{ap}
 use Rattle.std.proofs.Common.{◌∙◌, mod-lt, arith}
+use Rattle.std.proofs.Math.Nat.{mod-add-mod}
 use Rattle.checks.specs.Sheet.{job_numbers}
 use Rattle.practice.specs.Practice.{next_seed, seed_after, draw, drawn_job}
+
+-- a product that is cut to 32 bits, and a sum that is cut
+pub next_from : (s p n : ℕ) → p ≡ (1664525 * s) % 2 ^ 32 → n ≡ (p + 1013904223) % 2 ^ 32 → n ≡ next_seed s
+unfolding next_seed
+next_from s p n e f = f ∙ ap (λ z. (z + 1013904223) % 2 ^ 32) e ∙ mod-add-mod (1664525 * s) (2 ^ 32) 1013904223
 
 -- i draws, and k more
 pub seed_after_add : (s k i : ℕ) → seed_after (seed_after s i) k ≡ seed_after s (i + k)

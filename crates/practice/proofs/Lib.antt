@@ -1,4 +1,5 @@
 pub mod DrawLaws
 pub mod PracticeLaws
+pub mod ProductLaws
 pub mod SeedLaws
 pub mod Theorems

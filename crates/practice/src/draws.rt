@@ -2,6 +2,8 @@
 ghost use Rattle.std.specs.Prelude.{◌≡◌, ◌/◌};
 ghost use Rattle.practice.specs.Practice.{next_seed};
 
+use crate::product;
+
 const MULTIPLIER: u32 = 1664525;
 
 const INCREMENT: u32 = 1013904223;
@@ -12,7 +14,7 @@ pub fn draw(seed: &mut u32) -> u32
     ensures seed_drawn { seed.new ≡ next_seed seed.old }
 {
     let s = *seed;
-    let next = MULTIPLIER.wrapping_mul(s).wrapping_add(INCREMENT);
+    let next = std::num::wrapping_add_u32(product::wrapping_product(MULTIPLIER, s), INCREMENT);
     *seed = next;
     next / 65536
 }

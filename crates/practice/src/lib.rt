@@ -6,6 +6,7 @@
 #![tactic(auto)]
 
 mod draws;
+mod product;
 mod rations;
 mod seeds;
 pub mod sizes;
