@@ -8,7 +8,7 @@ use line::layout::LINE;
 use placing::Cause;
 use plan_lines::sizes::CAUSES_BYTES;
 
-// The cause's number.
+// The cause's number. The enum is of the crate `placing`, so that no `impl From<Cause> for u32` may stand here.
 fn number_of(cause: Cause) -> u32
     ensures { result ≡ number_of cause }
 {
@@ -24,13 +24,15 @@ fn put_entry(out: &mut [u8], at: usize, s: CausedStretch, words: SlotWords, coun
     requires { CanPutEntry out.old at s words count }
     ensures { EntryPut at s words count out.old out.new }
 {
-    let cause = s.cause;
+    let CausedStretch {
+        blower,
+        last,
+        cause,
+        ..
+    } = s;
     let number = number_of(cause);
-    let blower = s.blower;
-    let last = s.last;
     line::put_line(out, at, blower as u32, last as u32, number, count as u32);
-    let first = words.first;
-    let second = words.second;
+    let SlotWords { first, second } = words;
     let n = slot_lines::put_slots(out, at + LINE, 0, first);
     slot_lines::put_slots(out, at + LINE + LINE * n, 64, second);
 }
@@ -43,11 +45,8 @@ pub fn append(out: &mut [u8], slots: usize, so_far: Extent, s: CausedStretch) ->
     if so_far.cut {
         return so_far;
     }
-    let cause = s.cause;
-    let words = slot_lines::slots_of(cause, slots);
-    let first = words.first;
-    let second = words.second;
-    let count = (u64::count_ones(first) + u64::count_ones(second)) as usize;
+    let words = slot_lines::slots_of(s.cause, slots);
+    let count = (words.first.count_ones() + words.second.count_ones()) as usize;
     let at = so_far.length;
     let size = LINE * (count + 1);
     if CAUSES_BYTES - at < size {

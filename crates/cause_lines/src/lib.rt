@@ -21,7 +21,8 @@ pub struct CausedStretch {
     pub cause: Cause,
 }
 
-// The listing so far: its length, and whether an entry did not fit.
+// The listing so far: its length, and whether an entry did not fit. A listing that is cut has a length too, and the C
+// struct of the answer has both (`CausesAnswer` of the crate `causes`), so that `cut` is a flag and no Option.
 #[derive(Clone, Copy)]
 pub struct Extent {
     pub length: usize,

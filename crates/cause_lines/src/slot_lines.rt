@@ -11,14 +11,11 @@ use placing::Cause;
 fn slot_word(slot: u32, from: u32) -> u64
     ensures { SlotWord result slot from }
 {
-    if slot <= from {
-        return 0;
+    if from < slot && slot - from <= 64 {
+        bits::add_bit(0, slot - from - 1)
+    } else {
+        0
     }
-    let j = slot - from - 1;
-    if 64 <= j {
-        return 0;
-    }
-    bits::add_bit(0, j)
 }
 
 // The words of a cause, for a day of 96 slots.
@@ -30,14 +27,9 @@ fn words_of(cause: Cause) -> SlotWords
             first: slot_word(slot, 0),
             second: slot_word(slot, 64),
         },
-        Cause::Shortfall(a, b) => SlotWords {
-            first: a,
-            second: b,
-        },
-        Cause::Excess(a, b) => SlotWords {
-            first: a,
-            second: b,
-        },
+        Cause::Shortfall(first, second) | Cause::Excess(first, second) => {
+            SlotWords { first, second }
+        }
     }
 }
 
@@ -45,14 +37,11 @@ fn words_of(cause: Cause) -> SlotWords
 fn in_day(word: u64, from: usize, slots: usize) -> u64
     ensures { DayWord result word from slots }
 {
-    if slots <= from {
-        return 0;
-    }
-    let n = slots - from;
+    let n = slots.saturating_sub(from);
     if 64 <= n {
         return word;
     }
-    word % (1u64 << (n as u32))
+    word % (1 << n as u32)
 }
 
 // The slots of a cause, of a day of so many.
@@ -60,12 +49,11 @@ pub fn slots_of(cause: Cause, slots: usize) -> SlotWords
     requires { slots ≤ 96 }
     ensures { SlotsIn result cause slots }
 {
-    let words = words_of(cause);
-    let a = words.first;
-    let b = words.second;
-    let first = in_day(a, 0, slots);
-    let second = in_day(b, 64, slots);
-    SlotWords { first, second }
+    let SlotWords { first, second } = words_of(cause);
+    SlotWords {
+        first: in_day(first, 0, slots),
+        second: in_day(second, 64, slots),
+    }
 }
 
 // Writes a line for each bit of a word from a place of out on, where bit j stands for slot from + 1 + j, and answers
