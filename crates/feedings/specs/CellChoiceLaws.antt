@@ -1,5 +1,10 @@
 -- The answers of `feed`: each of its returns decides the cell as `Decided` says. Assumes nothing.
-use Rattle.std.specs.Prelude.{◌≡◌, refl, ◌≢◌, Bool, true, false, List, ℕ, ◌+◌, ◌-◌, ◌^◌, ◌≤◌, ◌<◌, set}
+use Rattle.std.specs.Prelude.{◌≡◌, refl, ◌≢◌, Bool, true, false, Option, None, Some, MatchOption, List, ℕ, ◌+◌, ◌-◌, ◌^◌, ◌≤◌, ◌<◌, eqb, length, set, position}
+use Rattle.std.specs.List.{position_or_len}
+use Rattle.std.proofs.lemmas.List.Quantifiers.{position-Some}
+use Rattle.std.proofs.lemmas.List.Sums.{fails_before_first}
+use Rattle.std.proofs.lemmas.Grind.{common_steps}
+use borrow.Author.Tests.{eqb-true, eqb-false}
 use Rattle.std.proofs.Common.{sym, ap, ◌∙◌, true≢false, arith, length-set, get_or-set_same, get_or-set_other}
 use Rattle.std.proofs.lemmas.Bool.{false≢true}
 use Rattle.common.specs.Tests.{false_of_not_true}
@@ -59,6 +64,30 @@ upd_outside f j t e =
     cell_cases (λ k u. f k u ≡ upd f j t false k u) j t (e ∙ sym (upd_same f j t false)) (λ k h. sym (upd_row f j t false k t h))
     (λ k u h. sym (upd_col f j t false k u h))
 
+-- the first word with bit j
+pub first_position :
+    (F : List ℕ) (j : ℕ) →
+    length F ≡ slots →
+    (o : Option ℕ) →
+    o ≡ position (λ (w : ℕ). eqb (bit w j) 1) F →
+    MatchOption o (FirstFed slots F j) (λ z. (z < slots) × FirstFed z F j)
+first_position F j l (Some z) e =
+    let p = position-Some (λ (w : ℕ). eqb (bit w j) 1) F z 0 (sym e) in (
+      omega (arith, p.0, l),
+      record {
+        within = omega (arith, p.0, l);
+        found = λ k. eqb-true _ _ p.1;
+        before = λ u k. bit_none (at F u) j (eqb-false _ _ (p.2 u k));
+      },
+    )
+first_position F j l None e =
+    let n : length F ≤ position_or_len (λ (w : ℕ). eqb (bit w j) 1) F = grind (arith, common_steps) in
+    record {
+      within = omega arith;
+      found = λ k. absurd (omega arith);
+      before = λ u k. bit_none (at F u) j (eqb-false _ _ (fails_before_first (λ (w : ℕ). eqb (bit w j) 1) F u 0 (omega (arith, n, l))));
+    }
+
 nowhere_fed : {r j : ℕ} {F : List ℕ} → FirstFed r F j → r ≡ slots → volume F j ≡ 0
 unfolding volume
 nowhere_fed {r} {j} {F} a i =
@@ -90,6 +119,10 @@ module _ {F R H : List ℕ} {t j : ℕ} (p : CanAsk F R H t j) where
   pub replace_first : {z : ℕ} → 0 < at H t → FirstFed z F j → z ≢ slots → CanReplace F R H t j z
   replace_first {z} h a i =
       let l : z < slots = omega (arith, a.within) in record { ask = p; some = h; from = l; has = a.found l }
+
+  -- the same of a slot that is one
+  pub replace_found : {z : ℕ} → 0 < at H t → (z < slots) × FirstFed z F j → CanReplace F R H t j z
+  replace_found h a = replace_first h a.1 (λ i. omega (arith, a.0))
 
   pub replace_partner : {z : ℕ} → at H t ≢ 0 → Partner z F R t j → z < slots → CanReplace F R H t j z
   replace_partner h a l = record { ask = p; some = omega arith; from = l; has = a.has l }

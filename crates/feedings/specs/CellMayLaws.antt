@@ -2,10 +2,10 @@
 use Rattle.std.specs.Prelude.{◌≡◌, refl, ◌≢◌, Bool, false, List, ℕ, ◌+◌, ◌-◌, ◌^◌, ◌≤◌, ◌<◌, length, set, replicate}
 use Rattle.std.proofs.Common.{sym, ap, ◌∙◌, ⊎_elim, not-suc-le-zero, arith, below_more, get_or-set_other}
 use Rattle.std.proofs.lemmas.Bool.{false≢true}
-use Rattle.std.specs.Int.Bits.{bit_and}
+use Rattle.std.specs.Int.Bits.{bit_and, bit_or}
 use Rattle.theory.specs.Sums.{sum_pos}
 use Rattle.theory.specs.Placing.{count, Placing}
-use Rattle.common.specs.Bits.{bit, bit_lt, some_bit, both_of_and, and_of_both}
+use Rattle.common.specs.Bits.{bit, bit_lt, bit_or_lem, some_bit, both_of_and, and_of_both}
 use Rattle.grid.specs.Grid.{slots, at, volume, Seen, Edge, Closed, Grid, Move}
 use Rattle.grid.specs.Search.{CanShift}
 use Rattle.grid.specs.MoveLaws.{ind_same, ind_other, seen_slot, move_fed, move_inside}
@@ -30,6 +30,17 @@ marking_next {w} {r} {u} {F} {S} a l b =
       within = omega arith;
       covers = below_more (λ (v : ℕ). Seen S v → (k : ℕ) → bit (at F v) k ≡ 1 → bit r k ≡ 1) u (λ v m s k f. b.old k (a.covers v m s k f)) b.new;
     }
+
+-- a marked slot's rations are added; one that is not marked has none to add
+pub added_marked : (w f s : ℕ) → AddMarked (bit_or w f) w f s
+added_marked w f s =
+    record {
+      old = λ k e. omega (arith, bit_or_lem w f k, e, bit_lt f k);
+      new = λ l k e. omega (arith, bit_or_lem w f k, e, bit_lt w k);
+    }
+
+pub added_none : (w f : ℕ) {s : ℕ} → s ≡ 0 → AddMarked w w f s
+added_none w f n = record { old = λ k e. e; new = λ l. absurd (omega arith) }
 
 pub marked_all : {w u : ℕ} {F S : List ℕ} → Marking w F S u → slots ≤ u → length S ≡ slots → FedMarked w F S
 marked_all {S} a l e = record { covers = λ v k s f. a.covers v (omega (arith, seen_slot S v e s)) s k f }

@@ -4,45 +4,30 @@ ghost use Rattle.std.specs.Prelude.{◌≡◌};
 ghost use Rattle.feedings.specs.FeedingCalls.{CanChooseSlot, ChoseSlot, CanChoose, Chose};
 
 use crate::{candidates, feed};
+use grid::SLOTS;
+use placing::Words;
 
 // The rations fed in slot t, bit j for ration j.
-fn choose_slot(
-    fed: &mut [u64; 96],
-    rest: &mut [u64; 96],
-    high: &mut [u8; 96],
-    seen: &mut [u8; 96],
-    t: usize,
-    rations: usize,
-) -> u64
-    requires { CanChooseSlot fed.old rest.old high.old t rations }
-    ensures { ChoseSlot result fed.old rest.old high.old
-        fed.new rest.new high.new t rations }
+fn choose_slot(words: &mut Words, t: usize, rations: usize) -> u64
+    requires { CanChooseSlot words.old.fed words.old.rest words.old.high t rations }
+    ensures { ChoseSlot result words.old.fed words.old.rest words.old.high
+        words.new.fed words.new.rest words.new.high t rations }
 {
-    let mut word: u64 = 0;
-    let mut may = candidates::fed_somewhere(fed);
+    let mut word = 0;
+    let mut may = candidates::fed_somewhere(&words.fed);
     for j in 0..rations {
-        word = feed::feed_bit(fed, rest, high, seen, &mut may, t, j as u32, word);
+        word = feed::feed_bit(words, &mut may, t, j as u32, word);
     }
     word
 }
 
-// Writes to `chosen`, which is all 0, the rations fed in each slot, bit j for ration j. At the start `fed` and `rest`
-// hold a sound placing whose loads are the counts, and `high` has the counts. At most one search for each slot and
-// ration.
-pub fn choose(
-    fed: &mut [u64; 96],
-    rest: &mut [u64; 96],
-    high: &mut [u8; 96],
-    seen: &mut [u8; 96],
-    chosen: &mut [u64; 96],
-    slots: usize,
-    rations: usize,
-)
-    requires { CanChoose fed.old rest.old high.old chosen.old slots rations }
-    ensures { Chose fed.old rest.old high.old chosen.new slots rations }
+// Writes to `chosen`, which is all 0, the rations fed in each slot, bit j for ration j. At the start the words hold a
+// sound placing whose loads are the counts, and its highs are the counts. At most one search for each slot and ration.
+pub fn choose(words: &mut Words, chosen: &mut [u64; SLOTS], slots: usize, rations: usize)
+    requires { CanChoose words.old.fed words.old.rest words.old.high chosen.old slots rations }
+    ensures { Chose words.old.fed words.old.rest words.old.high chosen.new slots rations }
 {
     for t in 0..slots {
-        let word = choose_slot(fed, rest, high, seen, t, rations);
-        chosen[t] = word;
+        chosen[t] = choose_slot(words, t, rations);
     }
 }

@@ -13,15 +13,7 @@ fn choose_day(words: &mut Words, slots: usize, blowers: u8, rations: usize) -> D
     settle::settle(words, slots, blowers);
     let counts = words.high;
     let mut chosen = [0u64; 96];
-    feedings::choose(
-        &mut words.fed,
-        &mut words.rest,
-        &mut words.high,
-        &mut words.seen,
-        &mut chosen,
-        slots,
-        rations,
-    );
+    feedings::choose(words, &mut chosen, slots, rations);
     DayPlan {
         counts,
         fed: chosen,

@@ -9,5 +9,5 @@ add_bit-requires c = (c.requires.feed.ration, bit_below _ _ c.requires.new)
 pub returns-then-feed : goal.returns-then-feed
 returns-then-feed c = fed_bit_yes c.feed.ensures _ c.requires.new c.if-feed.true c.add_bit.ensures
 
-pub returns : goal.returns
-returns c = fed_bit_no c.feed.ensures _ c.requires.new c.if-feed.false
+pub returns-else-feed : goal.returns-else-feed
+returns-else-feed c = fed_bit_no c.feed.ensures _ c.requires.new c.if-feed.false

@@ -1,20 +1,16 @@
--- `feedings::feed::feed_resting` meets its contract. Assumes nothing.
-use mathlib.Core.Path.{sym, ◌∙◌}
-use native.Mathlib.Omega.{arith}
+-- `feedings::feed::feed_resting` meets its contract where no search is made. Assumes nothing.
+use Rattle.std.proofs.Common.{sym, ◌∙◌}
 use borrow.Author.Tests.{eqb-false}
-use Rattle.feedings.specs.CellChoiceLaws.{answered_full, replace_partner}
+use Rattle.feedings.specs.CellChoiceLaws.{answered_full}
 use Rattle.feedings.specs.CellMayLaws.{answered_not_may}
 use Rattle.feedings.proofs.feed.feed_resting.Goals as goal
+use Rattle.feedings.proofs.feed.feed_resting.Goals.{then-words-t-eq0-via-then-words-t-eq0, then-words-t-eq0-via-else-words-t-eq0+then-not-has_bit}
 
-pub returns-then-high-t-eq0 : goal.returns-then-high-t-eq0
-returns-then-high-t-eq0 c = (answered_full c.requires.0 c.if-high-t-eq0.true, c.requires.1)
-
-pub returns-then-not-has_bit : goal.returns-then-not-has_bit
-returns-then-not-has_bit c = (answered_not_may c.requires.0 c.requires.1 (eqb-false _ _ (sym c.has_bit.ensures ∙ c.if-not-has_bit.true)), c.requires.1)
-
-pub swap-requires : goal.swap-requires
-swap-requires c = let k = c.partner-z.ensures in
-    (replace_partner c.requires.0 c.if-high-t-eq0.false k (omega (arith, c.if-z-lt96.true)), k.edge (omega (arith, c.if-z-lt96.true)))
-
-pub returns-then-z-lt96 : goal.returns-then-z-lt96
-returns-then-z-lt96 c = (c.swap.ensures.answer, c.swap.ensures.may _ c.requires.1)
+pub returns-then-words-t-eq0 : goal.returns-then-words-t-eq0
+returns-then-words-t-eq0 c = let p = c.requires in (
+  elim c.then-words-t-eq0.branch [
+    | then-words-t-eq0-via-then-words-t-eq0 w ↦ answered_full p.0 w.if-words-t-eq0.true
+    | then-words-t-eq0-via-else-words-t-eq0+then-not-has_bit w ↦ answered_not_may p.0 p.1 (eqb-false _ _ (sym w.has_bit.ensures ∙ w.if-not-has_bit.true))
+  ],
+  p.1,
+)
