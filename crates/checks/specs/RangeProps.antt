@@ -1,9 +1,9 @@
 -- That the values of a sheet are in range can be shown in one way only, so that a type may keep the fact. Assumes nothing.
-use Rattle.std.specs.Prelude.{◌≡◌, Bool, List, [], ◌∷◌, ℕ}
+use Rattle.std.specs.Prelude.{List, [], ◌∷◌, ℕ}
 use Rattle.std.specs.Coded.{×_prop, Unit-prop}
 use Rattle.std.proofs.Props.{props}
-use Rattle.checks.specs.Sheet.{Job, Sheet}
-use Rattle.checks.specs.RangeLaws.{JobInRange, JobsInRange, ValuesInRange}
+use Rattle.checks.specs.Sheet.{Job}
+use Rattle.checks.specs.RangeLaws.{JobInRange, JobsInRange}
 
 job_in_range_prop : (least slots before until : ℕ) (j : Job) → IsProp (JobInRange least slots before until j)
 job_in_range_prop least slots before until j = hlevel props

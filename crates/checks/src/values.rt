@@ -35,61 +35,63 @@ pub fn head_refusal(
     Ok(())
 }
 
-// 7: the tank, after the tank before it.
-fn tank_fault(before: u32, tank: u32) -> bool
-    ensures { result ≡ tank_fault before tank }
-{
-    !(1..=MAX_TANK).contains(&tank) || tank < before
-}
-
-// 8: the window.
-fn window_fault(slots: u32, release: u32, deadline: u32) -> bool
-    ensures { result ≡ window_fault slots release deadline }
-{
-    release < 1 || deadline < release || slots < deadline
-}
-
-// 9: the volume, of a window that is in order.
-fn volume_fault(release: u32, deadline: u32, volume: u32) -> bool
-    requires { (1 ≤ release) × (release ≤ deadline) }
-    ensures { result ≡ volume_fault release deadline volume }
-{
-    volume == 0 || deadline - release + 1 < volume
-}
-
-// 13: a meal of the tank before, against the last slot of the window before it.
-fn meal_fault(before: u32, until: u32, tank: u32, release: u32) -> bool
-    ensures { result ≡ meal_fault before until tank release }
-{
-    tank == before && release <= until
-}
-
-// 7 to 9 and 13: one ration, on its line, after the tank and the last slot of the one before it.
-fn ration_refusal(
-    slots: u32,
-    line: u32,
-    before: u32,
-    until: u32,
+// A ration's numbers, as four flat numbers give them.
+#[derive(Clone, Copy, Default)]
+struct Ration {
     tank: u32,
     release: u32,
     deadline: u32,
     volume: u32,
-) -> Result<(), Refusal>
-    ensures { result ≡ verdict (first_refusal (job_faults slots line before until (job tank release deadline volume))) }
-{
-    if tank_fault(before, tank) {
-        return Err(Fault::Tank.on(line));
+}
+
+impl Ration {
+    // 7: the tank, after the tank before it.
+    fn tank_fault(self, before: Ration) -> bool
+        ensures { result ≡ tank_fault before.tank self.tank }
+    {
+        !(1..=MAX_TANK).contains(&self.tank) || self.tank < before.tank
     }
-    if window_fault(slots, release, deadline) {
-        return Err(Fault::Window.on(line));
+
+    // 8: the window.
+    fn window_fault(self, slots: u32) -> bool
+        ensures { result ≡ window_fault slots self.release self.deadline }
+    {
+        self.release < 1 || self.deadline < self.release || slots < self.deadline
     }
-    if volume_fault(release, deadline, volume) {
-        return Err(Fault::Volume.on(line));
+
+    // 9: the volume, of a window that is in order.
+    fn volume_fault(self) -> bool
+        requires { (1 ≤ self.release) × (self.release ≤ self.deadline) }
+        ensures { result ≡ volume_fault self.release self.deadline self.volume }
+    {
+        self.volume == 0 || self.deadline - self.release + 1 < self.volume
     }
-    if meal_fault(before, until, tank, release) {
-        return Err(Fault::Meal.on(line));
+
+    // 13: a meal of the tank before, against the last slot of the window before it.
+    fn meal_fault(self, before: Ration) -> bool
+        ensures { result ≡ meal_fault before.tank before.deadline self.tank self.release }
+    {
+        self.tank == before.tank && self.release <= before.deadline
     }
-    Ok(())
+
+    // 7 to 9 and 13: the ration on its line, after the ration before it, which is all zeros where it is the first.
+    fn refusal(self, slots: u32, line: u32, before: Ration) -> Result<(), Refusal>
+        ensures { result ≡ verdict (first_refusal (job_faults slots line before.tank before.deadline (job self.tank self.release self.deadline self.volume))) }
+    {
+        if self.tank_fault(before) {
+            return Err(Fault::Tank.on(line));
+        }
+        if self.window_fault(slots) {
+            return Err(Fault::Window.on(line));
+        }
+        if self.volume_fault() {
+            return Err(Fault::Volume.on(line));
+        }
+        if self.meal_fault(before) {
+            return Err(Fault::Meal.on(line));
+        }
+        Ok(())
+    }
 }
 
 // 7 to 9 and 13: n rations as flat numbers, four for each, line by line.
@@ -97,24 +99,17 @@ pub fn rations_refusal(slots: u32, n: usize, numbers: &[u32]) -> Result<(), Refu
     requires { (n ≤ max_rations) × (fields * n ≤ length numbers.now) }
     ensures { result ≡ verdict (first_refusal (jobs_faults slots 2 0 0 (jobs_of (take (fields * n) numbers.now)))) }
 {
-    let mut before = 0;
-    let mut until = 0;
+    let mut before = Ration::default();
     for i in 0..n {
         let at = 4 * i;
-        let tank = numbers[at];
-        let deadline = numbers[at + 2];
-        ration_refusal(
-            slots,
-            i as u32 + 2,
-            before,
-            until,
-            tank,
-            numbers[at + 1],
-            deadline,
-            numbers[at + 3],
-        )?;
-        before = tank;
-        until = deadline;
+        let ration = Ration {
+            tank: numbers[at],
+            release: numbers[at + 1],
+            deadline: numbers[at + 2],
+            volume: numbers[at + 3],
+        };
+        ration.refusal(slots, i as u32 + 2, before)?;
+        before = ration;
     }
     Ok(())
 }

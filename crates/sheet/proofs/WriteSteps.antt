@@ -8,7 +8,7 @@ use Rattle.std.proofs.Math.ListN.{length, drop}
 use Rattle.common.specs.Lists.{part, flat_map}
 use Rattle.common.specs.ListLaws.{part_cons, part_none, flat_map_append}
 use Rattle.common.specs.Buffers.{over, put_at}
-use Rattle.common.specs.BufferLaws.{put_at_append, length_padded}
+use Rattle.common.specs.BufferLaws.{put_at_append}
 use Rattle.line.specs.Layout.{fields, line_bytes}
 use Rattle.line.specs.Line.{write_line}
 use Rattle.line.specs.LineLaws.{length_write_line}
@@ -17,16 +17,16 @@ use Rattle.sheet.specs.declared.Reading.{Reading}
 use Rattle.sheet.specs.declared.Written.{Written}
 use Rattle.checks.specs.Limits.{max_rations}
 use Rattle.checks.specs.Refusals.{short_buffer}
-use Rattle.checks.specs.Sheet.{Job, Sheet, write_job, write_sheet, numbers_of, jobs_of, sheet_from}
+use Rattle.checks.specs.Sheet.{Job, Sheet, write_job, write_sheet, jobs_of, sheet_from}
 use Rattle.checks.specs.Checks.{fault, first_refusal, value_faults, flat_faults}
 use Rattle.sheet.specs.Calls.{accepted, write_refusal, write_refusal_for, written_of, buffer_after}
-use Rattle.checks.specs.NumbersLaws.{length_numbers_of, length_jobs_of, jobs_of_numbers_of}
+use Rattle.checks.specs.NumbersLaws.{length_jobs_of, jobs_of_numbers_of}
 use Rattle.checks.specs.SheetLaws.{length_write_job, length_write_sheet}
 use Rattle.checks.specs.FaultLaws.{append_nil_parts, false_fault, numbered_append, numbered_fault, numbered_value_faults}
 use Rattle.checks.specs.RangeLaws.{in_range_value_faults}
 use Rattle.sheet.proofs.CallLaws.{rations_read_accepted}
 use Rattle.sheet.specs.OwnChecks.{ReadFrom, Wrote}
-use Rattle.sheet.proofs.OwnCheckLaws.{flat_agrees, refused_before, accepted_before, read_is, read_values}
+use Rattle.sheet.proofs.OwnCheckLaws.{flat_agrees, refused_before, accepted_before, read_is}
 use Rattle.checks.specs.Parts.{job}
 
 -- ---- rations side by side
@@ -206,16 +206,6 @@ module _ {own : List Refusal} {s : Sheet} {r : Reading} (h : ReadFrom own s r) (
     count : r.rations ≡ length s.jobs
     unfolding accepted
     count = ap (λ x. x.rations) (read_is h z)
-
-    pub wrote_few : r.rations ≤ max_rations
-    wrote_few = omega (arith, count, (read_values h z).head.rations)
-
-    pub wrote_long : length r.numbers ≡ fields * max_rations
-    unfolding accepted
-    wrote_long =
-        ap (λ x. length x.numbers) (read_is h z)
-        ∙ length_padded (fields * max_rations) (numbers_of s.jobs)
-        (omega (arith, length_numbers_of s.jobs, (read_values h z).head.rations))
 
     left : answer ≡ first_refusal (fault short_buffer 0 (ltb (length old) (line_bytes * suc (length s.jobs))))
     unfolding write_refusal_for

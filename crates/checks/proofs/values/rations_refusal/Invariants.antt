@@ -10,4 +10,4 @@ use Rattle.checks.specs.Checks.{first_refusal, jobs_faults}
 use Rattle.checks.proofs.values.rations_refusal.Given as goal
 
 abbrev pub invariant-loop-i : goal.invariant-loop-i
-invariant-loop-i l = first_refusal (jobs_faults l.slots 2 0 0 (jobs_of (take (fields * l.n) l.numbers))) ≡ first_refusal (jobs_faults l.slots (l.i + 2) l.before l.until (jobs_of (part (fields * l.i) (fields * l.n) l.numbers)))
+invariant-loop-i l = first_refusal (jobs_faults l.slots 2 0 0 (jobs_of (take (fields * l.n) l.numbers))) ≡ first_refusal (jobs_faults l.slots (l.i + 2) l.before.tank l.before.deadline (jobs_of (part (fields * l.i) (fields * l.n) l.numbers)))
