@@ -1,4 +1,5 @@
-// A word's bits: the lowest, one more, one less, one moved to another word, whether it has one. What a bit is stands in common/specs/Bits.antt.
+// A word's bits: the lowest, one more, one less, one moved to another word, whether it has one. What a bit is stands in
+// common/specs/Bits.antt.
 #![tactic(auto)]
 
 ghost use Rattle.std.specs.Prelude.{◌≡◌, ◌≢◌, ◌+◌, ◌-◌, ◌^◌, ◌<◌, eqb};

@@ -1,4 +1,5 @@
-// The rations that may be fed in a slot, as a word: those fed in the slots of a set around it that no ration fed in the set can leave.
+// The rations that may be fed in a slot, as a word: those fed in the slots of a set around it that no ration fed in the
+// set can leave.
 ghost use Rattle.std.specs.Prelude.{◌≡◌, length, replicate};
 ghost use Rattle.grid.specs.Grid.{slots};
 ghost use Rattle.feedings.specs.CellChoice.{FedMarked};

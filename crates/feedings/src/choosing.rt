@@ -1,5 +1,6 @@
-// The feedings: slots in rising order, in each slot rations in sheet order; a ration is fed if some sound placing with these counts and all choices made before
-// does so. The words hold a sound placing with the counts at the start, one of what is left after each choice, and nothing at the end.
+// The feedings: slots in rising order, in each slot rations in sheet order; a ration is fed if some sound placing with
+// these counts and all choices made before does so. The words hold a sound placing with the counts at the start, one of
+// what is left after each choice, and nothing at the end.
 ghost use Rattle.std.specs.Prelude.{◌≡◌};
 ghost use Rattle.feedings.specs.FeedingCalls.{CanChooseSlot, ChoseSlot, CanChoose, Chose};
 

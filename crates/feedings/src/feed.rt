@@ -1,6 +1,9 @@
-// The choice of feedings, one cell at a time: whether ration j is fed in slot t, all choices made before kept. The words hold one placing of what is left;
-// a cell that is decided is in neither word any more. `high` has the load of each slot. `may` has the rations that can still be fed in slot t, and perhaps
-// others: most answers need no search.
+// The choice of feedings, one cell at a time: whether ration j is fed in slot t, all choices made before kept. The
+// words hold one placing of what is left; a cell that is decided is in neither word any more. `high` has the load of
+// each slot. `may` has the rations that can still be fed in slot t, and perhaps others: most answers need no search.
+//
+// `may`, the slot and the ration stay parameters beside the words: a struct of them would hold the words' loan, and
+// what is said of `may` fails between the writes of an exchange, so that no ghost field could say it.
 ghost use Rattle.std.specs.Prelude.{◌≡◌, ◌<◌, eqb, position};
 ghost use Rattle.common.specs.Bits.{bit};
 ghost use Rattle.grid.specs.Grid.{at};
@@ -18,8 +21,9 @@ fn first_fed(fed: &[u64; SLOTS], j: u32) -> Option<usize>
     fed.iter().position(|word| bits::has_bit(*word, j))
 }
 
-// Takes the feeding of ration j out of slot z and looks for a chain of moves from slot t, one of whose feedings is then ration j's, to slot z. Where there is
-// none, the feeding stays. The marks are left on a set of slots around t that no ration fed in it can leave.
+// Takes the feeding of ration j out of slot z and looks for a chain of moves from slot t, one of whose feedings is then
+// ration j's, to slot z. Where there is none, the feeding stays. The marks are left on a set of slots around t that no
+// ration fed in it can leave.
 fn feed_instead(words: &mut Words, t: usize, j: u32, z: usize) -> bool
     requires { CanReplace words.old.fed words.old.rest words.old.high t j z }
     ensures { Replaced result words.old.fed words.old.rest words.old.high
@@ -61,8 +65,8 @@ fn feed_along(words: &mut Words, may: &mut u64, t: usize, j: u32) -> bool
     can
 }
 
-// Whether ration j, which rested in slot t, can be fed there: without a search where the slot is full, where the ration is known not to, or where an
-// exchange with one slot does it.
+// Whether ration j, which rested in slot t, can be fed there: without a search where the slot is full, where the ration
+// is known not to, or where an exchange with one slot does it.
 fn feed_resting(words: &mut Words, may: &mut u64, t: usize, j: u32) -> bool
     requires { CanAsk words.old.fed words.old.rest words.old.high t j
         × MayFeed may.old t words.old.fed words.old.rest }
@@ -80,7 +84,8 @@ fn feed_resting(words: &mut Words, may: &mut u64, t: usize, j: u32) -> bool
     feed_along(words, may, t, j)
 }
 
-// Decides whether ration j is fed in slot t: some placing of what is left, with the same load in each slot, does so. At most one search.
+// Decides whether ration j is fed in slot t: some placing of what is left, with the same load in each slot, does so. At
+// most one search.
 pub fn feed(words: &mut Words, may: &mut u64, t: usize, j: u32) -> bool
     requires { CanFeed words.old.fed words.old.rest words.old.high t j
         × MayFeed may.old t words.old.fed words.old.rest }

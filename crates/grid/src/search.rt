@@ -1,9 +1,12 @@
-// The search for a chain of moves. It spreads over the slots in sweeps, with one word of all rations fed in the slots marked so far, and
-// numbers the slots as it marks them. A slot with room ends it: the chain goes back from there, each slot to one with a smaller number. A sweep
-// marks a slot or is the last, so a search takes at most a pass over pairs of slots, in word operations. The grid is changed only along the chain.
+// The search for a chain of moves. It spreads over the slots in sweeps, with one word of all rations fed in the slots
+// marked so far, and numbers the slots as it marks them. A slot with room ends it: the chain goes back from there, each
+// slot to one with a smaller number. A sweep marks a slot or is the last, so a search takes at most a pass over pairs
+// of slots, in word operations. The grid is changed only along the chain.
 //
-// The words stay parameters side by side and make no struct: the same search runs on the exchanged words, `rest` for `fed`, for which a struct would be
-// taken apart and put together in the other order at each question.
+// The words stay parameters side by side and make no struct: the same search runs on the exchanged words, `rest` for
+// `fed`, for which a struct would be taken apart and put together in the other order at each question. A mark stays a
+// byte, 0 for none, and so does a slot's number in `order`: `Seen` and `Numbered`, and the theorems over them up to the
+// causes of a held day, read both as lists of numbers.
 ghost use Rattle.std.specs.Prelude.{◌≡◌, ◌<◌, ltb, IfSome, MatchOption};
 ghost use Rattle.std.specs.ControlFlow.{MatchControlFlow};
 ghost use Rattle.std.specs.Int.Count.{ones};
@@ -30,7 +33,8 @@ pub fn has_room(word: u64, high: u8) -> bool
     word.count_ones() < high as u32
 }
 
-// Whether a slot with these words, this high and this mark can take a ration straight from one that feeds the rations of `from`.
+// Whether a slot with these words, this high and this mark can take a ration straight from one that feeds the rations
+// of `from`.
 fn is_open(from: u64, fed: u64, rest: u64, high: u8, mark: u8) -> bool
     ensures { Open result from fed rest high mark }
 {
@@ -64,7 +68,8 @@ struct Front {
     last: u8,
 }
 
-// Looks at slot y: marks it where a ration that was reached rests in it. The search goes on, or breaks off with y, which has room.
+// Looks at slot y: marks it where a ration that was reached rests in it. The search goes on, or breaks off with y,
+// which has room.
 fn look(
     fed: &[u64; SLOTS],
     rest: &[u64; SLOTS],
@@ -187,7 +192,8 @@ fn carry(fed: &mut [u64; SLOTS], rest: &mut [u64; SLOTS], order: &[u8; SLOTS], x
     }
 }
 
-// Frees a place in slot x by a chain of any length: what `push` does, for a caller that knows that no one move to a later slot does it.
+// Frees a place in slot x by a chain of any length: what `push` does, for a caller that knows that no one move to a
+// later slot does it.
 pub fn push_along(
     fed: &mut [u64; SLOTS],
     rest: &mut [u64; SLOTS],
@@ -207,8 +213,8 @@ pub fn push_along(
     true
 }
 
-// Frees a place in slot x: a chain of moves from x to a slot that has room. Where there is none, nothing moves, and the slots reached from x
-// are marked. Most often one move does, so that is tried first.
+// Frees a place in slot x: a chain of moves from x to a slot that has room. Where there is none, nothing moves, and the
+// slots reached from x are marked. Most often one move does, so that is tried first.
 pub fn push(
     fed: &mut [u64; SLOTS],
     rest: &mut [u64; SLOTS],

@@ -1,8 +1,8 @@
 // Bringing loads down to the highs, by searches. A search that fails leaves the slots it reached marked: no later
 // search looks at them again, and at the end they show why no placing of these rations keeps within the highs.
 //
-// The words stay parameters side by side and make no struct: a question on a low goes to the exchanged words, `rest` for
-// `fed` and `spare` for `high`, for which a struct would be taken apart and put together in the other order.
+// The words stay parameters side by side and make no struct: a question on a low goes to the exchanged words, `rest`
+// for `fed` and `spare` for `high`, for which a struct would be taken apart and put together in the other order.
 ghost use Rattle.std.specs.Prelude.{◌≡◌, ◌+◌, ◌-◌, ◌≤◌, ◌<◌, ltb};
 ghost use Rattle.std.specs.Int.Count.{ones};
 ghost use Rattle.loads.specs.Relief.{CanUnload, Unloaded, CanRelieve, Relieved, CanLower, Lowered, Raised, OverMarked, ExcessMarked, Widths};
