@@ -1,4 +1,5 @@
--- That the values of a sheet are in range can be shown in one way only, so that a type may keep the fact. Assumes nothing.
+-- That the values of a sheet are in range can be shown in one way only, so that a type may keep the fact. Assumes
+-- nothing.
 use Rattle.std.specs.Prelude.{List, [], ◌∷◌, ℕ}
 use Rattle.std.specs.Coded.{×_prop, Unit-prop}
 use Rattle.std.proofs.Props.{props}

@@ -1,5 +1,5 @@
-// What is refused, each fault named once, with its number: the checks of a sheet in the order of their numbers, and what
-// is lent beside it. specs/Refusals.antt names the numbers for the definitions. Number 0 stands for no refusal.
+// What is refused, each fault named once, with its number: the checks of a sheet, and what is lent beside it.
+// specs/Refusals.antt names the numbers for the definitions. Number 0 stands for no refusal.
 ghost use Rattle.std.specs.Prelude.{◌≡◌};
 ghost use Rattle.checks.specs.FaultNumbers.{number_of};
 

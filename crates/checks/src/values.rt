@@ -10,7 +10,7 @@ ghost use Rattle.checks.specs.Verdicts.{verdict};
 use crate::limits::{MAX_BLOWERS, MAX_RATIONS, MAX_SLOTS, MAX_TANK, MAX_WAKE};
 use crate::{Fault, Refusal};
 
-// 3 to 6: the head line's numbers.
+// 3 to 6: the head line's numbers, each by itself, as `kiwimound_write` takes them.
 pub fn head_refusal(
     slots: u32,
     blowers: u32,

@@ -1,7 +1,7 @@
 -- The steps of the call `bounds`: the loops over the two lists, and its answer. Assumes nothing.
 use Rattle.std.specs.Prelude.{◌≡◌, refl, Bool, not, List, ℕ, ◌+◌, ◌≤◌, ◌<◌, min, leb, eqb, length, get_or, take, drop}
 use Rattle.std.proofs.Math.Path.{sym, ap, ap₂}
-use Rattle.std.proofs.Common.{subst, ◌∙◌, arith, length-take-le, get_or-take, le-leb, eqb-true, ne_eqb}
+use Rattle.std.proofs.Common.{subst, ◌∙◌, arith, length-take-le, get_or-take, ext_get_or, le-leb, eqb-true, ne_eqb}
 use Rattle.std.proofs.Math.Bool.{true, false}
 use Rattle.std.proofs.lemmas.Bool.{false≢true, lt-leb, not-false}
 use Rattle.std.proofs.Math.Decide.{dec_lt}
@@ -53,6 +53,16 @@ pub cut_end : (m : ℕ) (highs : List ℕ) → length highs ≤ max_slots → (t
 cut_end m highs l t e xs h =
     let c = length_cut_highs m highs in
     filled_end max_slots (cut_highs m highs) (cut_at m highs) t (e ∙ sym c) (omega arith) (λ k p. cut_highs_at m highs k (rw c at p)) xs h
+
+-- where none is above m, none is cut
+cut_highs_small : (m : ℕ) (xs : List ℕ) → ((t : ℕ) → t < length xs → get_or xs t 0 ≤ m) → cut_highs m xs ≡ xs
+cut_highs_small m xs h =
+    ext_get_or 0 (cut_highs m xs) xs (length_cut_highs m xs) (λ t l.
+    let k : t < length xs = omega (arith, length_cut_highs m xs) in
+    sym (cut_highs_at m xs t k) ∙ min_is m (get_or xs t 0) (h t k))
+  where
+    min_is : (m x : ℕ) → x ≤ m → min m x ≡ x
+    min_is m x l = omega arith
 
 -- The lows ------------------------------------------------------------------------
 
@@ -208,6 +218,10 @@ module _ {own : List Refusal} {s : Sheet} {r : Reading} (e : ReadFrom own s r) (
 
           pub lows_small : SmallLows lows
           lows_small = record { short = lows_short; small = λ t l. omega (arith, low_high t l, high_small t) }
+
+          -- which none of them is cut by
+          pub lows_cut : padded max_slots (cut_highs max_blowers lows) ≡ padded max_slots lows
+          lows_cut = ap (padded max_slots) (cut_highs_small max_blowers lows lows_small.small)
 
           module _ (L : List ℕ) (q : L ≡ padded max_slots lows) where
             module _ {W N : List ℕ} (w : WindowWords max_slots (demands_from max_slots r.rations r.numbers) W)

@@ -15,7 +15,8 @@ pub use shortfalls::shortfall;
 pub use question::bounds_of;
 pub use shortfalls::{shortfall_of, shortfall_of_reading, shortfall_on};
 
-// What `shortfall` answers: forced minus capacity, below zero where capacity is spare; 0 on a refusal.
+// What `shortfall` answers: forced minus capacity, below zero where capacity is spare; 0 on a refusal. A number with the
+// value beside it, since C reads it (`kiwimound_shortfall`).
 #[repr(C)]
 #[derive(Clone, Copy)]
 pub struct ShortfallAnswer {
@@ -24,7 +25,7 @@ pub struct ShortfallAnswer {
     pub shortfall: i32,
 }
 
-// What `bounds` answers: whether a sound placing exists; no on a refusal.
+// What `bounds` answers: whether a sound placing exists; no on a refusal. C reads it too (`kiwimound_bounds`).
 #[repr(C)]
 #[derive(Clone, Copy)]
 pub struct BoundsAnswer {

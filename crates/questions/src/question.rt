@@ -5,9 +5,10 @@ ghost use Rattle.common.specs.Buffers.{padded};
 ghost use Rattle.sheet.specs.FeedSheets.{as_reading};
 ghost use Rattle.schedules.specs.Schedules.{at_most};
 ghost use Rattle.questions.specs.Calls.{bounds_fault, cut_highs, bounds_of};
-ghost use Rattle.questions.specs.BoundsParts.{SmallLows, as_bounds, ReadBounds};
+ghost use Rattle.questions.specs.BoundsParts.{as_bounds, ReadBounds};
 
 use crate::BoundsAnswer;
+use checks::limits::MAX_BLOWERS;
 use checks::{Fault, Refusal};
 use placing::{feasibility, windows};
 use sheet::FeedSheet;
@@ -19,14 +20,14 @@ fn is_faulty(slots: usize, lows: &[u32], highs: &[u32]) -> bool
     lows.len() != slots || highs.len() != slots
 }
 
-// The highs as bytes, 0 past the day's end. A high above the blowers is read as the blowers.
-fn cut_highs(blowers: u32, highs: &[u32]) -> [u8; 96]
-    requires { (blowers ≤ max_blowers) × (length highs.now ≤ max_slots) }
-    ensures { result ≡ padded max_slots (cut_highs blowers highs.now) }
+// Bounds as bytes, 0 past the day's end. One above the blowers is read as the blowers.
+fn cut(blowers: u32, bounds: &[u32]) -> [u8; 96]
+    requires { (blowers ≤ max_blowers) × (length bounds.now ≤ max_slots) }
+    ensures { result ≡ padded max_slots (cut_highs blowers bounds.now) }
 {
     let mut cuts = [0u8; 96];
-    for (t, high) in highs.iter().enumerate() {
-        cuts[t] = blowers.min(*high) as u8;
+    for (t, bound) in bounds.iter().enumerate() {
+        cuts[t] = blowers.min(*bound) as u8;
     }
     cuts
 }
@@ -44,18 +45,6 @@ fn are_ordered(lows: &[u32], high: &[u8; 96]) -> bool
     true
 }
 
-// The lows as bytes, 0 past the day's end.
-fn low_bytes(lows: &[u32]) -> [u8; 96]
-    requires { SmallLows lows.now }
-    ensures { result ≡ padded max_slots lows.now }
-{
-    let mut bytes = [0u8; 96];
-    for (t, low) in lows.iter().enumerate() {
-        bytes[t] = *low as u8;
-    }
-    bytes
-}
-
 // Whether a sound placing exists on the day of a sheet that was read, under a low and a high for each slot.
 fn is_possible(
     sheet: Result<FeedSheet, Refusal>,
@@ -69,11 +58,12 @@ fn is_possible(
     if is_faulty(slots, lows, highs) {
         return Err(Fault::List.on(0));
     }
-    let high = cut_highs(sheet.blowers, highs);
+    let high = cut(sheet.blowers, highs);
     if !are_ordered(lows, &high) {
         return Ok(false);
     }
-    let low = low_bytes(lows);
+    // No low is above its high, so that none is cut.
+    let low = cut(MAX_BLOWERS, lows);
     let rations = sheet.rations as usize;
     let mut words = [0u64; 96];
     windows::mark_windows(&mut words, rations, &sheet.numbers);

@@ -13,8 +13,8 @@ use crate::ShortfallAnswer;
 use checks::{Fault, Refusal};
 use sheet::{FeedSheet, Reading};
 
-// What one ration is forced to take: the larger of 0 and its volume less the slots of its window that are not marked. `before` has the marks counted
-// from slot 1 on.
+// What one ration is forced to take: the larger of 0 and its volume less the slots of its window that are not marked.
+// `before` has the marks counted from slot 1 on.
 fn forced_of(before: &[u32; 97], release: u32, deadline: u32, volume: u32) -> u32
     requires { CanCount before.now release deadline }
     ensures { result ≡ volume - unmarked_in before.now release deadline }

@@ -3,8 +3,8 @@
 // A sheet is ASCII text in lines of four fields: the head line, and a line for each ration. `read_sheet` gives the
 // sheet's numbers or the first refusal of the paper's checks 1 to 9 and 13, and `write` makes a sheet's bytes from its
 // numbers. What is written is read back to the same numbers, and what is accepted is written back to the same bytes
-// (specs/Theorems.antt). `read_numbers` reads numbers at hand, under the checks 3 to 9 and 13, so that whatever takes an
-// accepted sheet need not know where it comes from. `read` gives what `read_sheet` does as a struct of C's.
+// (proofs/Theorems.antt). `read_numbers` reads numbers at hand, under the checks 3 to 9 and 13, so that whatever takes
+// an accepted sheet need not know where it comes from. `read` gives what `read_sheet` does as a struct of C's.
 #![tactic(auto)]
 
 mod feed_sheet;
@@ -20,7 +20,8 @@ pub use writer::write;
 pub use reader::read_numbers;
 pub use writer::write_of;
 
-// What `read` answers. On a refusal every field after `line` is 0.
+// What `read` answers. On a refusal every field after `line` is 0: a number with the values beside it, since C reads it
+// (`kiwimound_read`).
 #[repr(C)]
 #[derive(Clone, Copy)]
 pub struct Reading {
@@ -34,7 +35,7 @@ pub struct Reading {
     pub numbers: [u32; 256],
 }
 
-// What `write` answers: the length is that of the sheet written, 0 on a refusal.
+// What `write` answers: the length is that of the sheet written, 0 on a refusal. C reads it too (`kiwimound_write`).
 #[repr(C)]
 #[derive(Clone, Copy)]
 pub struct Written {

@@ -101,7 +101,8 @@ pub fn read(b: &[u8]) -> Reading
     Reading::from(read_sheet(b))
 }
 
-// Flat numbers in an array, 0 past them.
+// Flat numbers in an array, 0 past them. Copied one by one: after `copy_from_slice` into a part of the array the goal
+// `returns` did not close.
 fn padded_numbers(numbers: &[u32]) -> [u32; 256]
     requires { length numbers.now ≤ fields * max_rations }
     ensures { result ≡ padded (fields * max_rations) numbers.now }

@@ -1,4 +1,5 @@
--- `questions::question::are_ordered` meets its contract: what the slots from one on say of all, they say of all slots. Assumes nothing.
+-- `questions::question::are_ordered` meets its contract: what the slots from one on say of all, they say of all slots.
+-- Assumes nothing.
 use mathlib.Core.Path.{◌≡◌}
 use lib.Dec.{leb}
 use lib.ListN.{length, take, drop}

@@ -1,8 +1,0 @@
--- `questions::question::cut_highs` meets its contract: after t slots it has their highs, cut. Assumes nothing.
-use Rattle.checks.specs.Limits.{max_slots}
-use Rattle.common.specs.FillLaws.{FilledTo}
-use Rattle.questions.specs.BoundsSteps.{cut_at}
-use Rattle.questions.proofs.question.cut_highs.Given as goal
-
-abbrev pub invariant-loop-t : goal.invariant-loop-t
-invariant-loop-t l = FilledTo max_slots (cut_at l.blowers l.highs) l.t l.cuts
