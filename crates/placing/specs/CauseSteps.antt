@@ -1,8 +1,8 @@
 -- What the searches say of a cause, said of the demands: the answers of `idle_or_cause` and `busy_or_cause`. Assumes
 -- nothing.
-use Rattle.std.specs.Prelude.{◌≡◌, refl, ◌≢◌, Bool, true, false, cond, List, ℕ, suc, ◌+◌, ◌-◌, ◌^◌, ◌≤◌, ◌<◌, min, max, eqb, ltb, length, get_or, set, Ok, Err}
+use Rattle.std.specs.Prelude.{◌≡◌, refl, ◌≢◌, Bool, true, false, cond, List, ℕ, suc, ◌+◌, ◌-◌, ◌^◌, ◌≤◌, ◌<◌, min, max, eqb, ltb, length, get_or, take, drop, set, Ok, Err}
 use Rattle.std.proofs.Math.Path.{sym}
-use Rattle.std.proofs.Common.{ap, ◌∙◌, subst, add-one, arith, length-set, get_or-set_same, get_or-set_other, eq-eqb, ne_eqb, ltb-true, ltb-false, lt-ltb, le-ltb, below_more}
+use Rattle.std.proofs.Common.{ap, ◌∙◌, subst, add-one, zero-add, arith, length-set, length-drop, length-take-le, get_or-take, get_or-drop, get_or-set_same, get_or-set_other, eq-eqb, ne_eqb, ltb-true, ltb-false, lt-ltb, le-ltb, below_more}
 use Rattle.std.proofs.lemmas.Bool.{false≢true}
 use Rattle.std.proofs.Math.Decide.{ℕ_discrete}
 use Rattle.common.specs.Bits.{bit, bit_le, bit_none, add_same, add_other}
@@ -33,9 +33,9 @@ use Rattle.placing.specs.StepLaws.{put_set, low_width, represents_feasible, idle
 -- Marks as words --------------------------------------------------------------
 
 -- the first j of them are in the word
-pub record MarksIn (w : ℕ) (S : List ℕ) (from j : ℕ) : Type 0 where
+pub record MarksIn (w : ℕ) (S : List ℕ) (j : ℕ) : Type 0 where
   pub fits : w < 2 ^ j
-  pub marks : (i : ℕ) → i < j → eqb (bit w i) 1 ≡ marks_of S (from + i)
+  pub marks : (i : ℕ) → i < j → eqb (bit w i) 1 ≡ marks_of S i
 
 pub no_bit : (w j : ℕ) → w < 2 ^ j → bit w j ≡ 0
 no_bit w j l = bit_none w j (λ e. omega (arith, bit_le w j e))
@@ -47,22 +47,22 @@ mark_none w mark x e = let q : mark ≤ 0 = omega arith in omega (arith, ap (λ 
 pub mark_some : (w mark x r : ℕ) → (mark ≡ 0 → ⊥) → r ≡ w + x → r ≡ w + pick (ltb 0 mark) x
 mark_some w mark x r n e = let q : 0 < mark = omega arith in omega (arith, ap (λ b. pick b x) (lt-ltb 0 mark q))
 
-pub marks_begin : {S : List ℕ} {from : ℕ} → MarksIn 0 S from 0
+pub marks_begin : {S : List ℕ} → MarksIn 0 S 0
 marks_begin = record { fits = omega arith; marks = λ i l. absurd (omega arith) }
 
-pub marks_next : {S : List ℕ} {w r from j : ℕ} → MarksIn w S from j → r ≡ w + pick (ltb 0 (get_or S (from + j) 0)) (2 ^ j) → MarksIn r S from (j + 1)
-marks_next {S} {w} {r} {from} {j} m e = go (ltb 0 (get_or S (from + j) 0)) refl
+pub marks_next : {S : List ℕ} {w r j : ℕ} → MarksIn w S j → r ≡ w + pick (ltb 0 (get_or S j 0)) (2 ^ j) → MarksIn r S (j + 1)
+marks_next {S} {w} {r} {j} m e = go (ltb 0 (get_or S j 0)) refl
   where
     double : 2 ^ (j + 1) ≡ 2 ^ j + 2 ^ j
     double = rw (add-one j) (omega arith)
 
-    go : (x : Bool) → ltb 0 (get_or S (from + j) 0) ≡ x → MarksIn r S from (j + 1)
+    go : (x : Bool) → ltb 0 (get_or S j 0) ≡ x → MarksIn r S (j + 1)
     go false q =
         let i : r ≡ w = e ∙ ap (λ b. w + pick b (2 ^ j)) q ∙ omega arith in
         record {
           fits = omega (arith, m.fits, double);
           marks =
-              below_more (λ (i : ℕ). eqb (bit r i) 1 ≡ marks_of S (from + i)) j
+              below_more (λ (i : ℕ). eqb (bit r i) 1 ≡ marks_of S i) j
               (λ u l. ap (λ x. eqb (bit x u) 1) i ∙ m.marks u l)
               (ap (λ x. eqb (bit x j) 1) i ∙ ne_eqb (bit w j) 1 (λ f. omega (arith, no_bit w j m.fits)) ∙ sym q);
         }
@@ -72,13 +72,30 @@ marks_next {S} {w} {r} {from} {j} m e = go (ltb 0 (get_or S (from + j) 0)) refl
         record {
           fits = omega (arith, m.fits, double);
           marks =
-              below_more (λ (i : ℕ). eqb (bit r i) 1 ≡ marks_of S (from + i)) j
+              below_more (λ (i : ℕ). eqb (bit r i) 1 ≡ marks_of S i) j
               (λ u l. ap (λ x. eqb (bit x u) 1) i ∙ ap (λ x. eqb x 1) (add_other w j u z (λ f. omega arith)) ∙ m.marks u l)
               (ap (λ x. eqb (bit x j) 1) i ∙ eq-eqb (bit (w + 2 ^ j) j) 1 (add_same w j z) ∙ sym q);
         }
 
-pub marks_end : {S : List ℕ} {w from n j : ℕ} → n ≤ j → MarksIn w S from j → MarkWord w S from n
-marks_end l m = record { marks = λ i k. m.marks i (omega arith) }
+pub marks_end : {S : List ℕ} {w j : ℕ} → length S ≤ j → MarksIn w S j → MarkWord w S 0 (length S)
+marks_end {S} l m = record { marks = λ i k. m.marks i (omega arith) ∙ ap (marks_of S) (sym (zero-add i)) }
+
+-- the word of some of them, T, is that of their places among all
+part_marks : {S T : List ℕ} {w from n : ℕ} → ((i : ℕ) → i < n → get_or T i 0 ≡ get_or S (from + i) 0) → n ≤ length T
+    → MarkWord w T 0 (length T) → MarkWord w S from n
+part_marks {T} same l m =
+    record { marks = λ i k. m.marks i (omega arith) ∙ ap (marks_of T) (zero-add i) ∙ ap (ltb 0) (same i k) }
+
+module _ {S : List ℕ} {w : ℕ} (l : length S ≡ 96) where
+  pub front_marks : MarkWord w (take 64 S) 0 (length (take 64 S)) → MarkWord w S 0 64
+  front_marks m =
+      part_marks (λ i k. get_or-take 64 S i 0 k ∙ ap (λ j. get_or S j 0) (sym (zero-add i)))
+      (omega (arith, length-take-le 64 S (omega (arith, l)))) m
+
+  pub back_marks : MarkWord w (take 32 (drop 64 S)) 0 (length (take 32 (drop 64 S))) → MarkWord w S 64 32
+  back_marks m =
+      part_marks (λ i k. get_or-take 32 (drop 64 S) i 0 k ∙ get_or-drop 64 S i 0)
+      (omega (arith, length-take-le 32 (drop 64 S) (omega (arith, l, length-drop 64 S)))) m
 
 -- two words of 64 and 32 marks
 words_marks : {S : List ℕ} {a b : ℕ} → MarkWord a S 0 64 → MarkWord b S 64 32 → (t : ℕ) → t < 96 → in_words a b t ≡ marks_of S t

@@ -21,14 +21,14 @@ fn with_mark(word: u64, j: u32, mark: u8) -> u64
     bits::add_bit(word, j)
 }
 
-// The n marks from place `from` on, as a word.
-fn word_of(seen: &[u8; 96], from: usize, n: usize) -> u64
-    requires { (length seen.now ≡ 96) × (from + n ≤ 96) × (n ≤ 64) }
-    ensures { MarkWord result seen.now from n }
+// Marks as a word: bit j where mark j is not 0.
+fn word_of(marks: &[u8]) -> u64
+    requires { length marks.now ≤ 64 }
+    ensures { MarkWord result marks.now 0 (length marks.now) }
 {
-    let mut word: u64 = 0;
-    for j in 0..n {
-        word = with_mark(word, j as u32, seen[from + j]);
+    let mut word = 0;
+    for (j, mark) in marks.iter().enumerate() {
+        word = with_mark(word, j as u32, *mark);
     }
     word
 }
@@ -38,7 +38,7 @@ fn marked_words(seen: &[u8; 96]) -> (u64, u64)
     requires { length seen.now ≡ 96 }
     ensures { MarkWord result.0 seen.now 0 64 × MarkWord result.1 seen.now 64 32 }
 {
-    (word_of(seen, 0, 64), word_of(seen, 64, 32))
+    (word_of(&seen[..64]), word_of(&seen[64..]))
 }
 
 impl Words {

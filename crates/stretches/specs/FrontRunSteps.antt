@@ -53,18 +53,10 @@ module _ (counts : List ℕ) (slots k from : ℕ) (busy : Bool) (can : CanScan c
         nothing : busy_from counts end k end ≡ []
         nothing = rw (part_none counts end)
 
--- ---- one test for busy and for idle
+-- ---- the test whether a slot is as the stretch is
 
-pub busy_goes_on : (busy here r : Bool) → busy ≡ true → r ≡ here → r ≡ beq busy here
-busy_goes_on busy here r p e = e ∙ sym (ap (λ b. beq b here) p ∙ same here)
-  where
-    same : (b : Bool) → beq true b ≡ b
-    same true = refl
-    same false = refl
-
-pub idle_goes_on : (busy here r : Bool) → busy ≡ false → r ≡ here → not r ≡ beq busy here
-idle_goes_on busy here r p e = ap not e ∙ sym (ap (λ b. beq b here) p ∙ other here)
-  where
-    other : (b : Bool) → beq false b ≡ not b
-    other true = refl
-    other false = refl
+pub beq_turned : (busy here : Bool) → beq busy here ≡ not (not (beq here busy))
+beq_turned true true = refl
+beq_turned true false = refl
+beq_turned false true = refl
+beq_turned false false = refl

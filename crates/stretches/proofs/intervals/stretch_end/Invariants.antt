@@ -1,10 +1,6 @@
 -- `stretches::intervals::stretch_end` meets its contract. The loop passes the slots of the stretch. Assumes nothing.
-use Prim.Native.Nat.{◌-◌}
 use Rattle.stretches.specs.FrontRunSteps.{Within}
 use Rattle.stretches.proofs.intervals.stretch_end.Given as goal
 
 abbrev pub invariant-loop-end : goal.invariant-loop-end
 invariant-loop-end l = Within l.counts l.slots l.blower l.from l.end l.busy
-
-abbrev pub decreases-loop-end : goal.decreases-loop-end
-decreases-loop-end l = l.slots - l.end
