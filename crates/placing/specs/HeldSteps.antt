@@ -1,20 +1,19 @@
 -- The steps of filling the highs of a day, and of adding up feedings and highs of marked slots. Assumes nothing.
 use Rattle.std.specs.Prelude.{◌≡◌, refl, List, ◌++◌, ℕ, ◌+◌, ◌-◌, ◌≤◌, ◌<◌, ltb, length, get_or, take, drop, replicate}
 use Rattle.std.proofs.Common.{sym, ap, ◌∙◌, arith, lt-ltb, le-ltb, length-take-le}
-use Rattle.std.specs.Int.Count.{ones}
-use Rattle.std.proofs.lemmas.List.{length-replicate, get_or-replicate, drop-replicate}
+use Rattle.std.proofs.lemmas.List.{length-replicate, drop-replicate}
 use Rattle.checks.specs.Limits.{max_slots}
 use Rattle.common.specs.Buffers.{padded}
 use Rattle.theory.specs.Sums.{sum_none, sum_next}
 use Rattle.theory.specs.SumsOver.{pick, sum_on, on_cong}
-use Rattle.grid.specs.Grid.{at, load}
+use Rattle.grid.specs.Grid.{at}
 use Rattle.loads.specs.Meaning.{seen_at}
 use Rattle.schedules.specs.Slots.{Slots}
 use Rattle.schedules.specs.Shortfall.{capacity}
 use Rattle.schedules.specs.Tabulate.{tab}
 use Rattle.schedules.proofs.AsFunctions.{sum_over_tab}
 use Rattle.common.specs.FillLaws.{get_d_padded}
-use Rattle.placing.specs.Represents.{HighWords, marks_of, marked_loads, marked_highs}
+use Rattle.placing.specs.Represents.{HighWords, marks_of, marked_highs}
 use Rattle.common.specs.BufferLaws.{length_padded}
 
 -- the highs of the day, as words

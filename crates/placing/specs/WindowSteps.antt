@@ -8,7 +8,7 @@ use Rattle.std.proofs.lemmas.Bool.{lt-leb}
 use Rattle.common.specs.Bits.{bit, bit_below, add_same, add_other}
 use Rattle.checks.specs.Limits.{max_slots, max_rations}
 use Rattle.theory.specs.SumsOver.{one, pick}
-use Rattle.schedules.specs.Slots.{has, window}
+use Rattle.schedules.specs.Slots.{has}
 use Rattle.placing.specs.Rations.{release_at, deadline_at, volume_at, demands_from, Rations}
 use Rattle.placing.specs.Words.{WindowWords, VolumeBytes, in_window, CanMark, Added, Marked}
 use Rattle.placing.specs.RationLaws.{length_demands_from, window_of_demands_from, volume_of_demands_from}

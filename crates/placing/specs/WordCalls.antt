@@ -1,6 +1,6 @@
 -- What the methods of `Words` require and ensure: the definitions of Represents and CauseCalls, said of the words as one.
 -- w has the words as they are lent, w' as they are afterwards. Definitions only. Assumes nothing.
-use Rattle.std.specs.Prelude.{◌≡◌, Bool, false, List, ℕ, ◌≤◌, length, replicate, Result}
+use Rattle.std.specs.Prelude.{◌≡◌, Bool, false, List, ℕ, length, replicate, Result}
 use Rattle.checks.specs.Limits.{max_slots}
 use Rattle.schedules.specs.Schedules.{Demand}
 use Rattle.placing.specs.declared.Cause.{Cause}

@@ -1,18 +1,8 @@
 -- `endings::days::list_day` meets its contract. Assumes nothing.
-use Rattle.std.proofs.Common.{refl, ap, length}
-use Rattle.placing.specs.RationLaws.{rations_longest}
+use Rattle.std.proofs.Common.{ap, length}
 use Rattle.placing.specs.WordLaws.{windows_of_day, volumes_of_day}
 use Rattle.endings.specs.DayCauseLaws.{day_begin, can_list, day_listed, day_held}
 use Rattle.endings.proofs.days.list_day.Goals as goal
-
-pub mark_windows-requires : goal.mark_windows-requires
-mark_windows-requires c = (rations_longest c.requires.0, refl)
-
-pub volumes_of-volumes-requires : goal.volumes_of-volumes-requires
-volumes_of-volumes-requires c = rations_longest c.requires.0
-
-pub set_highs-requires : goal.set_highs-requires
-set_highs-requires c = (c.requires.0.short, refl)
 
 pub begin-requires : goal.begin-requires
 begin-requires c = let r = c.requires.0 in

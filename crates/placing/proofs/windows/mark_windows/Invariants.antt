@@ -1,5 +1,5 @@
 -- `placing::windows::mark_windows` meets its contract: after j rations the words have their windows. Assumes nothing.
-use Prim.Native.Nat.{◌-◌, ◌≤◌}
+use Prim.Native.Nat.{◌≤◌}
 use Rattle.checks.specs.Limits.{max_slots}
 use Rattle.placing.specs.WindowSteps.{WindowsTo}
 use Rattle.placing.proofs.windows.mark_windows.Given as goal

@@ -1,5 +1,5 @@
 -- `placing::windows::volumes_of` meets its contract: after j rations it has their volumes. Assumes nothing.
-use Prim.Native.Nat.{◌-◌, ◌≤◌}
+use Prim.Native.Nat.{◌≤◌}
 use Rattle.checks.specs.Limits.{max_rations}
 use Rattle.placing.specs.Rations.{volume_at}
 use Rattle.common.specs.FillLaws.{FilledTo}

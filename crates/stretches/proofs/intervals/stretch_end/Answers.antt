@@ -3,11 +3,8 @@ use Rattle.std.specs.Prelude.{◌≡◌, not}
 use Rattle.std.specs.Bool.{beq}
 use Rattle.std.proofs.Common.{ap, subst, sym, ◌∙◌, arith}
 use Rattle.method.specs.FrontRunLaws.{EndsAt}
-use Rattle.stretches.specs.FrontRunSteps.{within_begin, within_more, ends_changed, ends_day, beq_turned}
+use Rattle.stretches.specs.FrontRunSteps.{within_more, ends_changed, ends_day, beq_turned}
 use Rattle.stretches.proofs.intervals.stretch_end.Goals as goal
-
-pub loop-end-init : goal.loop-end-init
-loop-end-init c = within_begin c.args.counts.now c.args.slots c.args.blower c.args.from _ c.requires c.is_busy-busy.ensures
 
 pub returns-then-is_busy-busy : goal.returns-then-is_busy-busy
 returns-then-is_busy-busy c =

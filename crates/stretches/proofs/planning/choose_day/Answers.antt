@@ -2,9 +2,6 @@
 use Rattle.stretches.proofs.DayLaws.{can_choose, day_chosen}
 use Rattle.stretches.proofs.planning.choose_day.Goals as goal
 
-pub settle-requires : goal.settle-requires
-settle-requires c = c.requires.day
-
 pub choose-requires : goal.choose-requires
 choose-requires c = can_choose c.args.slots c.args.blowers c.settle.ensures c.requires
 

@@ -1,15 +1,7 @@
 -- `stretches::planning::plan_day` meets its contract. Assumes nothing.
-use mathlib.Core.Path.{refl}
-use Rattle.placing.specs.RationLaws.{rations_longest}
 use Rattle.placing.specs.WordLaws.{windows_of_day, volumes_of_day}
 use Rattle.stretches.proofs.DayLaws.{can_plan_day, day_planned}
 use Rattle.stretches.proofs.planning.plan_day.Goals as goal
-
-pub mark_windows-requires : goal.mark_windows-requires
-mark_windows-requires c = (rations_longest c.requires.0, refl)
-
-pub volumes_of-volumes-requires : goal.volumes_of-volumes-requires
-volumes_of-volumes-requires c = rations_longest c.requires.0
 
 pub plan_words-requires : goal.plan_words-requires
 plan_words-requires c = let p = c.requires in

@@ -1,6 +1,5 @@
 -- `stretches::planning::plan_words` meets its contract. Assumes nothing.
 use Rattle.std.proofs.Common.{ap, length}
-use Rattle.placing.specs.FeasibilitySteps.{some_short}
 use Rattle.stretches.proofs.DayLaws.{can_begin_words, can_choose_words, words_planned, words_held}
 use Rattle.stretches.proofs.planning.plan_words.Goals as goal
 
@@ -12,12 +11,6 @@ choose_day-plan-requires c = can_choose_words c.args.blowers c.requires c.begin.
 
 pub returns-then-begin : goal.returns-then-begin
 returns-then-begin c = words_planned c.args.blowers c.requires c.begin.ensures c.if-begin.true c.choose_day-plan.ensures
-
-pub marked_loads-forced-requires : goal.marked_loads-forced-requires
-marked_loads-forced-requires c = some_short c.requires.day
-
-pub marked_highs-capacity-requires : goal.marked_highs-capacity-requires
-marked_highs-capacity-requires c = some_short c.requires.day
 
 pub returns : goal.returns
 returns c = words_held c.args.blowers c.requires c.begin.ensures c.if-begin.false c.marked_loads-forced.ensures c.marked_highs-capacity.ensures

@@ -1,11 +1,8 @@
 -- `stretches::settle::settle` meets its contract. What is left to settle after a blower is what was left before it. Assumes nothing.
-use mathlib.Core.Path.{refl, ◌∙◌}
-use Rattle.stretches.proofs.SettlingLaws.{blowers_begin, blowers_next, blowers_end, passing_day}
+use mathlib.Core.Path.{◌∙◌}
+use Rattle.stretches.proofs.SettlingLaws.{blowers_next, blowers_end, passing_day}
 use native.Mathlib.Omega.{arith}
 use Rattle.stretches.proofs.settle.settle.Goals as goal
-
-pub loop-k-init : goal.loop-k-init
-loop-k-init c = (c.requires, λ ds b u. blowers_begin u, λ u l. refl)
 
 pub settle_blower-requires : goal.settle_blower-requires
 settle_blower-requires c = (passing_day c.loop-k.invariant.0 c.loop-k.invariant.1, c.loop-k-test.true)

@@ -1,5 +1,4 @@
 -- `stretches::settle::settle` meets its contract. What is left to settle after a blower is what was left before it. Assumes nothing.
-use Prim.Native.Nat.{◌≤◌}
 use Rattle.stretches.specs.Settling.{SomeDay, SamePast, PassingBlowers}
 use Rattle.stretches.proofs.settle.settle.Given as goal
 

@@ -1,21 +1,11 @@
 -- `stretches::settle::settle_blower` meets its contract. What is left to settle after a slot is what was left before it. Assumes nothing.
-use mathlib.Core.Path.{refl, ◌∙◌}
-use Prim.Native.Nat.{◌-◌}
-use Rattle.stretches.proofs.SettlingLaws.{left_begin, left_next, left_end, passing_slot}
+use mathlib.Core.Path.{◌∙◌}
+use Rattle.stretches.proofs.SettlingLaws.{left_next, left_end, passing_slot}
 use native.Mathlib.Omega.{arith}
 use Rattle.stretches.proofs.settle.settle_blower.Goals as goal
 
-pub loop-t-init : goal.loop-t-init
-loop-t-init c = (omega arith, c.requires.1, c.requires.0, λ ds b u. left_begin u, λ u l. refl)
-
 pub step-is_busy-requires : goal.step-is_busy-requires
 step-is_busy-requires c = (passing_slot c.loop-t.invariant.2 (omega arith) c.loop-t.invariant.3, c.loop-t.invariant.1)
-
-pub overflow_step-t : goal.overflow_step-t
-overflow_step-t c = omega arith
-
-pub loop-t-smaller : goal.loop-t-smaller
-loop-t-smaller c = omega arith
 
 pub loop-t-preserved : goal.loop-t-preserved
 loop-t-preserved c = (omega arith, c.loop-t.invariant.1, c.loop-t.invariant.2, λ ds b u. left_next (omega arith) (c.loop-t.invariant.3 ds b u) c.step-is_busy.ensures, λ u l. c.step-is_busy.ensures.others u (λ e. omega (arith, e)) ∙ c.loop-t.invariant.4 u l)
