@@ -1,5 +1,6 @@
-// Questions about one slot as in steps.rt, where a refusal says why: the cause of a stretch's end. The slots of a cause are
-// those that the search which failed has marked.
+// Questions about one slot as in steps.rt, where a refusal says why: the cause of a stretch's end. The slots of a cause
+// are those that the search which failed has marked. A plan asks `idle` and `busy`, which gather no cause: these two ask
+// no less and add the slots, so neither pair is written by the other.
 ghost use Rattle.std.specs.Prelude.{◌≡◌, ◌+◌, ◌^◌, ◌≤◌, ◌<◌, ltb, length};
 ghost use Rattle.theory.specs.SumsOver.{pick};
 ghost use Rattle.grid.specs.Grid.{at};
@@ -70,7 +71,8 @@ impl Words {
     // Raises the low of slot t to k; where that can't be done, the marks are left on the set contained in every set of
     // greatest excess. Where fewer than k rations have the slot in their windows, `raise` would not search.
     fn raise_or_mark(&mut self, t: usize, k: u8) -> bool
-        requires { ReadyIn self.old t × (k ≤ at self.old.high t) × (width self.old.fed self.old.rest t < at self.old.spare t + k) }
+        requires { ReadyIn self.old t × (k ≤ at self.old.high t)
+            × (width self.old.fed self.old.rest t < at self.old.spare t + k) }
         ensures { RaisedOrMarked result self.old self.new t k }
     {
         if relief::width(self.fed[t], self.rest[t]) < k as u32 {

@@ -1,4 +1,5 @@
-// Whether a sound placing exists under a low and a high for each slot: the highs first, then the lows, one slot after another.
+// Whether a sound placing exists under a low and a high for each slot: the highs first, then the lows, one slot after
+// another.
 ghost use Rattle.std.specs.Prelude.{◌≡◌, ◌≤◌, length};
 ghost use Rattle.placing.specs.FeasibilityParts.{CanAsk, WordsAnswered};
 ghost use Rattle.placing.specs.FeasibilitySteps.{LowDay, LowsRaised};

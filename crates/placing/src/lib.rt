@@ -30,7 +30,8 @@ pub enum Cause {
 
 // Words that hold a placing of a day's rations under a low and a high for each slot. A layer above makes them, lends
 // them from one question to the next, and reads no more of them than the definitions of specs/ say. The index is the
-// slot, from 0; bit j of a word is for ration j, from 0.
+// slot, from 0; bit j of a word is for ration j, from 0. What they hold stands in the contracts and in no invariant: new
+// words hold no placing, and those of a held day none that is sound.
 #[derive(Drop)]
 pub struct Words {
     // the rations that are fed in the slot

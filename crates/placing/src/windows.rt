@@ -1,4 +1,6 @@
-// Windows in words: a word for each slot, in which bit j says that the slot is in the window of ration j.
+// Windows in words: a word for each slot, in which bit j says that the slot is in the window of ration j. Windows and
+// volumes stay two values: `begin_again` takes volumes alone, twice, and `cuts` writes windows into a placing's words.
+// The flat numbers come with the count of rations, as `Rations` and `demands_from` of specs/Rations.antt speak of them.
 ghost use Rattle.std.specs.Prelude.{◌≡◌, replicate};
 ghost use Rattle.checks.specs.Limits.{max_slots};
 ghost use Rattle.placing.specs.Rations.{demands_from, Rations};
