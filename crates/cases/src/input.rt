@@ -1,44 +1,40 @@
 // Cases from standard input.
-ghost use Rattle.std.specs.Prelude.{◌≡◌, ◌≤◌, length};
-
 use crate::{Case, payloads};
 
 // Room for the longest payload: a sheet of the first length beyond that of a sheet, and what stands before it.
-pub fn room() -> [u8; 66000]
-    ensures { 66000 ≡ length result }
-{
-    [0; 66000]
-}
+const ROOM: usize = 66000;
 
-// The end of a stream.
-fn end() -> Case
-    ensures { result.length ≡ 0 }
-{
-    Case {
-        operation: b'E',
-        number: 0,
-        length: 0,
-    }
-}
+// No stream has as many cases; the bound lets the loop over them end.
+const CASES: u32 = 100000;
 
-// Takes the next case, its payload into the room; E too where the stream ends without one or the payload is longer than the room.
-pub fn next_case(room: &mut [u8]) -> Case
-    ensures { result.length ≤ length room.new }
-{
+// Takes the next case, its payload into the room; nothing at the end of the stream, which is operation E, and also where
+// the stream ends without one or the payload is longer than the room.
+fn next_case(room: &mut [u8]) -> Option<Case<'_>> {
     let mut header = [0u8; 16];
     let got = io::read_full(0, &mut header);
-    if got < 16 {
-        return end();
+    if got < header.len() || header[0] == b'E' {
+        return None;
     }
-    let n = payloads::number(&header, 1, 6);
-    let length = payloads::number(&header, 7, 15) as usize;
-    if room.len() < length {
-        return end();
-    }
-    io::read_full(0, &mut room[0..length]);
-    Case {
+    let length = payloads::number(&header[7..15]) as usize;
+    let payload = room.get_mut(..length)?;
+    io::read_full(0, payload);
+    Some(Case {
         operation: header[0],
-        number: n,
-        length: length,
+        number: payloads::number(&header[1..6]),
+        payload,
+    })
+}
+
+// Has each case of the stream answered.
+pub fn answer_all<F: Fn(Case<'_>) -> std::io::Result<()>>(answer: F) -> std::io::Result<()>
+    requires { F.IsAlwaysCallable answer }
+{
+    let mut room = [0; ROOM];
+    for _ in 0..CASES {
+        let Some(case) = next_case(&mut room) else {
+            break;
+        };
+        answer(case)?;
     }
+    Ok(())
 }

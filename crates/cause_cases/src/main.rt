@@ -7,88 +7,62 @@
 // sheet, as that of W, which writes what the program `why` writes for it.
 #![tactic(auto)]
 
+use cases::Case;
 use causes::CausesAnswer;
+use std::io;
+use std::io::Write;
 
 // Writes the operation, number, line, length and whether the listing was cut.
-fn write_answer(operation: &[u8], a: CausesAnswer) {
-    io::write_all(1, operation);
-    cases::word(a.number);
-    cases::word(a.line);
-    cases::size(a.length);
-    cases::flag(a.cut);
-    cases::end_line();
+fn write_answer(rt: &HostRuntime, operation: char, a: CausesAnswer) -> io::Result<()> {
+    println!(rt;
+        "{operation} {} {} {} {}",
+        a.number,
+        a.line,
+        a.length,
+        u32::from(a.cut)
+    )
 }
 
-fn call(sheet: &[u8], buffer: &mut [u8]) {
-    cases::fill(buffer);
-    let a = causes::list_causes(sheet, buffer);
-    write_answer(b"C", a);
-    io::write_all(1, b"D");
-    cases::word(cases::digest(buffer));
-    cases::end_line();
-}
-
-// Lends so many bytes of the room.
-fn lend(sheet: &[u8], count: u32, room: &mut [u8]) {
-    let length = count as usize;
-    if room.len() < length {
-        return;
-    }
-    call(sheet, &mut room[0..length]);
-}
-
-fn call_with(lengths: &[u8], sheet: &[u8]) {
+fn call(rt: &HostRuntime, lengths: &[u8], sheet: &[u8]) -> io::Result<()> {
     let mut numbers = [0u32; 1];
     cases::numbers(lengths, &mut numbers);
     // no case lends a longer buffer
     let mut room = [0u8; 70000];
-    lend(sheet, numbers[0], &mut room);
+    let Some(buffer) = room.get_mut(..numbers[0] as usize) else {
+        return Ok(());
+    };
+    cases::fill(buffer);
+    let a = causes::list_causes(sheet, buffer);
+    write_answer(rt, 'C', a)?;
+    println!(rt; "D {}", cases::digest(buffer))
 }
 
-fn write_listing(sheet: &[u8]) {
+fn write_listing(rt: &HostRuntime, sheet: &[u8]) -> io::Result<()> {
     let mut room = [0u8; 65536];
     let a = causes::list_causes(sheet, &mut room);
-    write_answer(b"Y", a);
-    io::write_all(1, cases::first_part(&room, a.length));
+    write_answer(rt, 'Y', a)?;
+    rt.stdout().write_all(cases::first_part(&room, a.length))
 }
 
-fn write_output(sheet: &[u8]) {
+fn write_output(rt: &HostRuntime, sheet: &[u8]) -> io::Result<()> {
     let output = program::explain(sheet);
-    let bytes = output.bytes;
-    io::write_all(1, cases::first_part(&bytes, output.length));
+    rt.stdout()
+        .write_all(cases::first_part(&output.bytes, output.length))
 }
 
 // Answers one case.
-fn answer(operation: u8, payload: &[u8], at: usize) {
-    if operation == b'C' {
-        call_with(
-            cases::first_part(payload, at),
-            cases::second_part(payload, at),
-        );
-    }
-    if operation == b'Y' {
-        write_listing(payload);
-    }
-    if operation == b'W' {
-        write_output(payload);
+fn answer(rt: &HostRuntime, case: Case<'_>) -> io::Result<()> {
+    match case.operation {
+        b'C' => {
+            let (lengths, sheet) = case.parts();
+            call(rt, lengths, sheet)
+        }
+        b'Y' => write_listing(rt, case.payload),
+        b'W' => write_output(rt, case.payload),
+        _ => Ok(()),
     }
 }
 
-// Takes the next case from the stream and answers it, with room for its payload; false at the end of the stream.
-fn answer_next(room: &mut [u8]) -> bool {
-    let case = cases::next_case(room);
-    if case.operation == b'E' {
-        return false;
-    }
-    let payload = cases::first_part(room, case.length);
-    answer(case.operation, payload, case.number as usize);
-    true
-}
-
-fn main() {
-    let mut room = cases::room();
-    let mut left = cases::CASES;
-    while left > 0 && answer_next(&mut room) {
-        left -= 1;
-    }
+fn main(rt: HostRuntime) -> io::Result<()> {
+    cases::answer_all(|case| answer(&rt, case))
 }

@@ -7,69 +7,56 @@
 // whole placing buffer.
 #![tactic(auto)]
 
-fn write_output(sheet: &[u8]) {
+use cases::Case;
+use std::io;
+use std::io::Write;
+
+fn write_output(rt: &HostRuntime, sheet: &[u8]) -> io::Result<()> {
     let output = program::answer(sheet);
-    let bytes = output.bytes;
-    io::write_all(1, cases::first_part(&bytes, output.length));
+    rt.stdout()
+        .write_all(cases::first_part(&output.bytes, output.length))
 }
 
-fn digest_output(sheet: &[u8]) {
+fn digest_output(rt: &HostRuntime, sheet: &[u8]) -> io::Result<()> {
     let planned = planning::plan_number(sheet);
     let output = program::answer(sheet);
-    let bytes = output.bytes;
     let mut room = [0u8; 38455];
     cases::fill(&mut room);
-    let front = cases::digest(cases::first_part(&bytes, output.length));
-    io::write_all(1, b"O");
-    cases::word(planned.number);
-    cases::word(planned.line);
-    cases::size(output.length);
-    cases::word(cases::digest_after(front, cases::second_part(&room, output.length)));
-    cases::end_line();
+    let front = cases::digest(cases::first_part(&output.bytes, output.length));
+    let digest = cases::digest_after(front, cases::second_part(&room, output.length));
+    println!(rt;
+        "O {} {} {} {digest}",
+        planned.number, planned.line, output.length
+    )
 }
 
-fn plan(sheet: &[u8]) {
+fn plan(rt: &HostRuntime, sheet: &[u8]) -> io::Result<()> {
     let mut room = [0u8; 38455];
     let mut placing = [0u64; 96];
     cases::fill(&mut room);
-    cases::fill_words(&mut placing);
+    cases::fill(&mut placing);
     let r = planning::plan_both(sheet, &mut room, &mut placing);
-    io::write_all(1, b"D");
-    cases::word(r.number);
-    cases::word(r.line);
-    cases::size(r.length);
-    cases::word(cases::digest(cases::first_part(&room, r.length)));
-    cases::word(cases::digest_words(&placing));
-    cases::end_line();
+    let listing = cases::digest(cases::first_part(&room, r.length));
+    println!(rt;
+        "D {} {} {} {listing} {}",
+        r.number,
+        r.line,
+        r.length,
+        cases::digest(&placing)
+    )
 }
 
 // Answers one case.
-fn answer(operation: u8, sheet: &[u8]) {
-    if operation == b'T' {
-        write_output(sheet);
-    }
-    if operation == b'O' {
-        digest_output(sheet);
-    }
-    if operation == b'D' {
-        plan(sheet);
+fn answer(rt: &HostRuntime, case: Case<'_>) -> io::Result<()> {
+    let sheet = case.payload;
+    match case.operation {
+        b'T' => write_output(rt, sheet),
+        b'O' => digest_output(rt, sheet),
+        b'D' => plan(rt, sheet),
+        _ => Ok(()),
     }
 }
 
-// Takes the next case from the stream and answers it, with room for its payload; false at the end of the stream.
-fn answer_next(room: &mut [u8]) -> bool {
-    let case = cases::next_case(room);
-    if case.operation == b'E' {
-        return false;
-    }
-    answer(case.operation, cases::first_part(room, case.length));
-    true
-}
-
-fn main() {
-    let mut room = cases::room();
-    let mut left = cases::CASES;
-    while left > 0 && answer_next(&mut room) {
-        left -= 1;
-    }
+fn main(rt: HostRuntime) -> io::Result<()> {
+    cases::answer_all(|case| answer(&rt, case))
 }

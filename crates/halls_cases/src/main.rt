@@ -8,40 +8,22 @@
 // seed and how many groups there are.
 #![tactic(auto)]
 
-mod answers;
 mod group_case;
 mod seeds_case;
 
+use cases::Case;
+use std::io;
+
 // Answers one case.
-fn answer(operation: u8, first: &[u8], second: &[u8]) {
-    if operation == b'H' {
-        group_case::answer(first, second);
-    }
-    if operation == b'S' {
-        seeds_case::answer(second);
+fn answer(rt: &HostRuntime, case: Case<'_>) -> io::Result<()> {
+    let (first, second) = case.parts();
+    match case.operation {
+        b'H' => group_case::answer(rt, first, second),
+        b'S' => seeds_case::answer(rt, second),
+        _ => Ok(()),
     }
 }
 
-// Takes the next case from the stream and answers it, with room for its payload; false at the end of the stream.
-fn answer_next(room: &mut [u8]) -> bool {
-    let case = cases::next_case(room);
-    if case.operation == b'E' {
-        return false;
-    }
-    let payload = cases::first_part(room, case.length);
-    let at = case.number as usize;
-    answer(
-        case.operation,
-        cases::first_part(payload, at),
-        cases::second_part(payload, at),
-    );
-    true
-}
-
-fn main() {
-    let mut room = cases::room();
-    let mut left = cases::CASES;
-    while left > 0 && answer_next(&mut room) {
-        left -= 1;
-    }
+fn main(rt: HostRuntime) -> io::Result<()> {
+    cases::answer_all(|case| answer(&rt, case))
 }

@@ -1,50 +1,42 @@
 // Groups of four practice sheets, whose seeds follow each other. Of each group `S seed` and then what a group's case
 // writes after its letter, the buffers lent being as long as they must be.
 use crate::group_case;
+use crate::group_case::Hall;
 use practice::sizes::PRACTICE_BYTES;
+use std::io;
 
-fn answer_group(limit: u32, halls: u32, seed: u32) {
+// The hall of a seed, its sheet written into the room.
+fn hall(seed: u32, room: &mut [u8; PRACTICE_BYTES]) -> Hall<'_> {
+    let made = practice::write_practice(seed, room);
+    let sheet = cases::first_part(room, made.length);
+    Hall {
+        sheet,
+        bytes: 38455,
+        words: 96,
+    }
+}
+
+fn answer_group(rt: &HostRuntime, limit: u32, halls: u32, seed: u32) -> io::Result<()> {
     let mut sheet_1 = [0u8; PRACTICE_BYTES];
     let mut sheet_2 = [0u8; PRACTICE_BYTES];
     let mut sheet_3 = [0u8; PRACTICE_BYTES];
     let mut sheet_4 = [0u8; PRACTICE_BYTES];
     // no group goes beyond the last seed
-    let made_1 = practice::write_practice(seed, &mut sheet_1);
-    let made_2 = practice::write_practice(std::num::wrapping_add_u32(seed, 1), &mut sheet_2);
-    let made_3 = practice::write_practice(std::num::wrapping_add_u32(seed, 2), &mut sheet_3);
-    let made_4 = practice::write_practice(std::num::wrapping_add_u32(seed, 3), &mut sheet_4);
-    io::write_all(1, b"S");
-    cases::word(seed);
-    group_case::plan(
-        limit,
-        halls,
-        cases::first_part(&sheet_1, made_1.length),
-        38455,
-        96,
-        cases::first_part(&sheet_2, made_2.length),
-        38455,
-        96,
-        cases::first_part(&sheet_3, made_3.length),
-        38455,
-        96,
-        cases::first_part(&sheet_4, made_4.length),
-        38455,
-        96,
-    );
+    let one = hall(seed, &mut sheet_1);
+    let two = hall(seed.wrapping_add(1), &mut sheet_2);
+    let three = hall(seed.wrapping_add(2), &mut sheet_3);
+    let four = hall(seed.wrapping_add(3), &mut sheet_4);
+    print!(rt; "S {seed}")?;
+    group_case::plan(rt, limit, halls, [one, two, three, four])
 }
 
-fn answer_groups(limit: u32, halls: u32, first: u32, count: u32) {
-    let mut seed = first;
-    let mut left = count;
-    while left > 0 {
-        answer_group(limit, halls, seed);
-        seed = std::num::wrapping_add_u32(seed, 4);
-        left -= 1;
-    }
-}
-
-pub fn answer(payload: &[u8]) {
+// The payload holds the limit, the number of halls, the first seed and how many groups there are.
+pub fn answer(rt: &HostRuntime, payload: &[u8]) -> io::Result<()> {
     let mut range = [0u32; 4];
     cases::numbers(payload, &mut range);
-    answer_groups(range[0], range[1], range[2], range[3]);
+    let [limit, halls, first, count] = range;
+    for i in 0..count {
+        answer_group(rt, limit, halls, first.wrapping_add(i.wrapping_mul(4)))?;
+    }
+    Ok(())
 }

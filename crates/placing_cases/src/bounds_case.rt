@@ -1,30 +1,16 @@
 // The bounds question: `B number line yes`. The lists are numbers, one a line: how many lows there are, the lows, the highs.
+use std::io;
 
-// Asks about so many lows and the highs after them.
-fn ask(count: u32, bounds: &[u32], sheet: &[u8]) {
-    let lows = count as usize;
-    if bounds.len() < lows {
-        return;
-    }
-    let r = questions::bounds(sheet, &bounds[0..lows], &bounds[lows..]);
-    io::write_all(1, b"B");
-    cases::word(r.number);
-    cases::word(r.line);
-    cases::flag(r.yes);
-    cases::end_line();
-}
-
-// Takes the first number as that of the lows.
-fn ask_counted(numbers: &[u32], sheet: &[u8]) {
-    if numbers.len() == 0 {
-        return;
-    }
-    ask(numbers[0], &numbers[1..], sheet);
-}
-
-pub fn answer(lists: &[u8], sheet: &[u8]) {
+pub fn answer(rt: &HostRuntime, lists: &[u8], sheet: &[u8]) -> io::Result<()> {
     // no case has lists of more than twice 96 numbers
     let mut numbers = [0u32; 400];
     let count = cases::numbers(lists, &mut numbers);
-    ask_counted(&numbers[0..count], sheet);
+    let [lows, bounds @ ..] = &numbers[..count] else {
+        return Ok(());
+    };
+    let Some((lows, highs)) = bounds.split_at_checked(*lows as usize) else {
+        return Ok(());
+    };
+    let r = questions::bounds(sheet, lows, highs);
+    println!(rt; "B {} {} {}", r.number, r.line, u32::from(r.yes))
 }

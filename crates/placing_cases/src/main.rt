@@ -7,36 +7,19 @@
 mod bounds_case;
 mod shortfall_case;
 
+use cases::Case;
+use std::io;
+
 // Answers one case.
-fn answer(operation: u8, lists: &[u8], sheet: &[u8]) {
-    if operation == b'S' {
-        shortfall_case::answer(lists, sheet);
-    }
-    if operation == b'B' {
-        bounds_case::answer(lists, sheet);
+fn answer(rt: &HostRuntime, case: Case<'_>) -> io::Result<()> {
+    let (lists, sheet) = case.parts();
+    match case.operation {
+        b'S' => shortfall_case::answer(rt, lists, sheet),
+        b'B' => bounds_case::answer(rt, lists, sheet),
+        _ => Ok(()),
     }
 }
 
-// Takes the next case from the stream and answers it, with room for its payload; false at the end of the stream.
-fn answer_next(room: &mut [u8]) -> bool {
-    let case = cases::next_case(room);
-    if case.operation == b'E' {
-        return false;
-    }
-    let payload = cases::first_part(room, case.length);
-    let at = case.number as usize;
-    answer(
-        case.operation,
-        cases::first_part(payload, at),
-        cases::second_part(payload, at),
-    );
-    true
-}
-
-fn main() {
-    let mut room = cases::room();
-    let mut left = cases::CASES;
-    while left > 0 && answer_next(&mut room) {
-        left -= 1;
-    }
+fn main(rt: HostRuntime) -> io::Result<()> {
+    cases::answer_all(|case| answer(&rt, case))
 }

@@ -1,9 +1,7 @@
 // The shortfall of marked slots, a byte for each mark: `S number line shortfall`.
-pub fn answer(marks: &[u8], sheet: &[u8]) {
+use std::io;
+
+pub fn answer(rt: &HostRuntime, marks: &[u8], sheet: &[u8]) -> io::Result<()> {
     let r = questions::shortfall(sheet, marks);
-    io::write_all(1, b"S");
-    cases::word(r.number);
-    cases::word(r.line);
-    cases::signed(r.shortfall);
-    cases::end_line();
+    println!(rt; "S {} {} {}", r.number, r.line, r.shortfall)
 }

@@ -1,26 +1,16 @@
 // A sheet planned with a plan buffer: `P number line length`, and `D digest` of the whole buffer after the call.
-use crate::answers;
+use std::io;
 
-fn plan(sheet: &[u8], buffer: &mut [u8]) {
-    cases::fill(buffer);
-    let r = planning::plan(sheet, buffer);
-    answers::write_planned(b"P", r.number, r.line, r.length);
-    answers::write_digest(cases::digest(buffer));
-}
-
-// Lends so many bytes of the room.
-fn lend(sheet: &[u8], count: u32, room: &mut [u8]) {
-    let length = count as usize;
-    if room.len() < length {
-        return;
-    }
-    plan(sheet, &mut room[0..length]);
-}
-
-pub fn answer(lengths: &[u8], sheet: &[u8]) {
+pub fn answer(rt: &HostRuntime, lengths: &[u8], sheet: &[u8]) -> io::Result<()> {
     let mut numbers = [0u32; 1];
     cases::numbers(lengths, &mut numbers);
     // no case lends a longer buffer
     let mut room = [0u8; 39000];
-    lend(sheet, numbers[0], &mut room);
+    let Some(buffer) = room.get_mut(..numbers[0] as usize) else {
+        return Ok(());
+    };
+    cases::fill(buffer);
+    let r = planning::plan(sheet, buffer);
+    println!(rt; "P {} {} {}", r.number, r.line, r.length)?;
+    println!(rt; "D {}", cases::digest(buffer))
 }

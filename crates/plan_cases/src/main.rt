@@ -9,7 +9,6 @@
 // practice sheets of a range of seeds: the payload, which has one part, holds the first seed and how many there are.
 #![tactic(auto)]
 
-mod answers;
 mod both_case;
 mod compare_case;
 mod listing_case;
@@ -17,51 +16,24 @@ mod none_case;
 mod placing_case;
 mod share_case;
 
+use cases::Case;
+use std::io;
+
 // Answers one case.
-fn answer(operation: u8, first: &[u8], second: &[u8]) {
-    if operation == b'P' {
-        listing_case::answer(first, second);
-    }
-    if operation == b'G' {
-        placing_case::answer(first, second);
-    }
-    if operation == b'B' {
-        both_case::answer(first, second);
-    }
-    if operation == b'N' {
-        none_case::answer(second);
-    }
-    if operation == b'C' {
-        compare_case::answer(first, second);
-    }
-    if operation == b'S' {
-        share_case::answer(first, second);
-    }
-    if operation == b'R' {
-        share_case::answer_seeds(second);
+fn answer(rt: &HostRuntime, case: Case<'_>) -> io::Result<()> {
+    let (first, second) = case.parts();
+    match case.operation {
+        b'P' => listing_case::answer(rt, first, second),
+        b'G' => placing_case::answer(rt, first, second),
+        b'B' => both_case::answer(rt, first, second),
+        b'N' => none_case::answer(rt, second),
+        b'C' => compare_case::answer(rt, first, second),
+        b'S' => share_case::answer(rt, first, second),
+        b'R' => share_case::answer_seeds(rt, second),
+        _ => Ok(()),
     }
 }
 
-// Takes the next case from the stream and answers it, with room for its payload; false at the end of the stream.
-fn answer_next(room: &mut [u8]) -> bool {
-    let case = cases::next_case(room);
-    if case.operation == b'E' {
-        return false;
-    }
-    let payload = cases::first_part(room, case.length);
-    let at = case.number as usize;
-    answer(
-        case.operation,
-        cases::first_part(payload, at),
-        cases::second_part(payload, at),
-    );
-    true
-}
-
-fn main() {
-    let mut room = cases::room();
-    let mut left = cases::CASES;
-    while left > 0 && answer_next(&mut room) {
-        left -= 1;
-    }
+fn main(rt: HostRuntime) -> io::Result<()> {
+    cases::answer_all(|case| answer(&rt, case))
 }

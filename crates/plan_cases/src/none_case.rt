@@ -1,7 +1,7 @@
 // A sheet planned with no buffer: `N number line length`.
-use crate::answers;
+use std::io;
 
-pub fn answer(sheet: &[u8]) {
+pub fn answer(rt: &HostRuntime, sheet: &[u8]) -> io::Result<()> {
     let r = planning::plan_number(sheet);
-    answers::write_planned(b"N", r.number, r.line, r.length);
+    println!(rt; "N {} {} {}", r.number, r.line, r.length)
 }

@@ -11,40 +11,20 @@ mod call_case;
 mod input_case;
 mod seeds_case;
 
+use cases::Case;
+use std::io;
+
 // Answers one case.
-fn answer(operation: u8, number: u32, payload: &[u8]) {
-    if operation == b'P' {
-        call_case::answer(payload, number);
-    }
-    if operation == b'T' {
-        input_case::answer(payload);
-    }
-    if operation == b'L' {
-        input_case::answer_long(number);
-    }
-    if operation == b'S' {
-        seeds_case::answer(payload);
+fn answer(rt: &HostRuntime, case: Case<'_>) -> io::Result<()> {
+    match case.operation {
+        b'P' => call_case::answer(rt, case.payload, case.number),
+        b'T' => input_case::answer(rt, case.payload),
+        b'L' => input_case::answer_long(rt, case.number),
+        b'S' => seeds_case::answer(rt, case.payload),
+        _ => Ok(()),
     }
 }
 
-// Takes the next case from the stream and answers it, with room for its payload; false at the end of the stream.
-fn answer_next(room: &mut [u8]) -> bool {
-    let case = cases::next_case(room);
-    if case.operation == b'E' {
-        return false;
-    }
-    answer(
-        case.operation,
-        case.number,
-        cases::first_part(room, case.length),
-    );
-    true
-}
-
-fn main() {
-    let mut room = cases::room();
-    let mut left = cases::CASES;
-    while left > 0 && answer_next(&mut room) {
-        left -= 1;
-    }
+fn main(rt: HostRuntime) -> io::Result<()> {
+    cases::answer_all(|case| answer(&rt, case))
 }

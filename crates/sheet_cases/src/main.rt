@@ -10,41 +10,22 @@ mod find_case;
 mod read_case;
 mod write_case;
 
+use cases::Case;
+use std::io;
+
 // Answers one case.
-fn answer(operation: u8, number: u32, payload: &[u8]) {
-    if operation == b'R' {
-        read_case::answer(payload);
-    }
-    if operation == b'F' {
-        let at = number as usize;
-        find_case::answer(
-            cases::first_part(payload, at),
-            cases::second_part(payload, at),
-        );
-    }
-    if operation == b'W' {
-        write_case::answer(payload, number);
+fn answer(rt: &HostRuntime, case: Case<'_>) -> io::Result<()> {
+    match case.operation {
+        b'R' => read_case::answer(rt, case.payload),
+        b'F' => {
+            let (list, sheet) = case.parts();
+            find_case::answer(rt, list, sheet)
+        }
+        b'W' => write_case::answer(rt, case.payload, case.number),
+        _ => Ok(()),
     }
 }
 
-// Takes the next case from the stream and answers it, with room for its payload; false at the end of the stream.
-fn answer_next(room: &mut [u8]) -> bool {
-    let case = cases::next_case(room);
-    if case.operation == b'E' {
-        return false;
-    }
-    answer(
-        case.operation,
-        case.number,
-        cases::first_part(room, case.length),
-    );
-    true
-}
-
-fn main() {
-    let mut room = cases::room();
-    let mut left = cases::CASES;
-    while left > 0 && answer_next(&mut room) {
-        left -= 1;
-    }
+fn main(rt: HostRuntime) -> io::Result<()> {
+    cases::answer_all(|case| answer(&rt, case))
 }

@@ -1,10 +1,9 @@
--- `cases::payloads::numbers` meets its contract. The loop's invariant: the room keeps its length, and no more numbers are taken than it holds.
--- The measure is how many more fit. Assumes nothing.
-use Rattle.std.proofs.Common.{◌≡◌, ◌-◌, ◌≤◌, length}
+-- `cases::payloads::numbers` meets its contract: no more numbers are taken than the room holds. Assumes nothing.
+use Rattle.std.proofs.Common.{◌≤◌, length}
 use Rattle.cases.proofs.payloads.numbers.Given as goal
 
-abbrev pub invariant-loop-k : goal.invariant-loop-k
-invariant-loop-k l = (l.k ≤ length l.room) × (length l.room ≡ length l.initial.room)
-
-abbrev pub decreases-loop-k : goal.decreases-loop-k
-decreases-loop-k l = length l.room - l.k
+abbrev pub invariant-loop-line : goal.invariant-loop-line
+invariant-loop-line l =
+    (goal.iterator-loop-line).can_next l.line-iterator ×
+    (goal.iterator-loop-line).is_finite l.line-iterator ×
+    (l.count ≤ length l.room)
