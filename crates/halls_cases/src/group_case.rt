@@ -68,7 +68,7 @@ pub fn plan(rt: &HostRuntime, limit: u32, halls: u32, group: [Hall<'_>; 4]) -> i
 }
 
 // A hall of the list's numbers: where its sheet begins, and the lengths of its sheet and of both buffers.
-fn hall(sheets: &[u8], numbers: [u32; 4]) -> Hall<'_> {
+fn listed_hall(sheets: &[u8], numbers: [u32; 4]) -> Hall<'_> {
     let [start, length, bytes, words] = numbers;
     let sheet = cases::first_part(cases::second_part(sheets, start as usize), length as usize);
     Hall {
@@ -81,10 +81,10 @@ fn hall(sheets: &[u8], numbers: [u32; 4]) -> Hall<'_> {
 pub fn answer(rt: &HostRuntime, list: &[u8], sheets: &[u8]) -> io::Result<()> {
     let mut n = [0u32; 18];
     cases::numbers(list, &mut n);
-    let one = hall(sheets, [n[2], n[3], n[4], n[5]]);
-    let two = hall(sheets, [n[6], n[7], n[8], n[9]]);
-    let three = hall(sheets, [n[10], n[11], n[12], n[13]]);
-    let four = hall(sheets, [n[14], n[15], n[16], n[17]]);
+    let one = listed_hall(sheets, [n[2], n[3], n[4], n[5]]);
+    let two = listed_hall(sheets, [n[6], n[7], n[8], n[9]]);
+    let three = listed_hall(sheets, [n[10], n[11], n[12], n[13]]);
+    let four = listed_hall(sheets, [n[14], n[15], n[16], n[17]]);
     print!(rt; "H")?;
     plan(rt, n[0], n[1], [one, two, three, four])
 }

@@ -6,7 +6,7 @@ use practice::sizes::PRACTICE_BYTES;
 use std::io;
 
 // The hall of a seed, its sheet written into the room.
-fn hall(seed: u32, room: &mut [u8; PRACTICE_BYTES]) -> Hall<'_> {
+fn practice_hall(seed: u32, room: &mut [u8; PRACTICE_BYTES]) -> Hall<'_> {
     let made = practice::write_practice(seed, room);
     let sheet = cases::first_part(room, made.length);
     Hall {
@@ -22,10 +22,10 @@ fn answer_group(rt: &HostRuntime, limit: u32, halls: u32, seed: u32) -> io::Resu
     let mut sheet_3 = [0u8; PRACTICE_BYTES];
     let mut sheet_4 = [0u8; PRACTICE_BYTES];
     // no group goes beyond the last seed
-    let one = hall(seed, &mut sheet_1);
-    let two = hall(seed.wrapping_add(1), &mut sheet_2);
-    let three = hall(seed.wrapping_add(2), &mut sheet_3);
-    let four = hall(seed.wrapping_add(3), &mut sheet_4);
+    let one = practice_hall(seed, &mut sheet_1);
+    let two = practice_hall(seed.wrapping_add(1), &mut sheet_2);
+    let three = practice_hall(seed.wrapping_add(2), &mut sheet_3);
+    let four = practice_hall(seed.wrapping_add(3), &mut sheet_4);
     print!(rt; "S {seed}")?;
     group_case::plan(rt, limit, halls, [one, two, three, four])
 }
