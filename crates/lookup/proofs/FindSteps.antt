@@ -1,5 +1,6 @@
 -- The steps of a look-up: the search for a tank's first line and for the first line after it that is not of the tank, and the part between them. Assumes nothing.
-use Rattle.std.specs.Prelude.{◌≡◌, Bool, true, false, List, [], ◌∷◌, ltb, eqb, take, drop, Option, Some, None, unwrap_or}
+use Rattle.std.specs.Prelude.{◌≡◌, Bool, true, false, List, [], ◌∷◌, ltb, eqb, take, drop, Option, Some, None, unwrap_or, Result, Ok, Err}
+use Rattle.std.specs.Result.{result_ok}
 use Rattle.std.specs.Option.{MatchOption}
 use Rattle.std.proofs.Math.Path.{refl, sym, ap}
 use Rattle.std.proofs.Common.{subst₂, ◌∙◌, ne_eqb, eqb-true, ltb-true, ltb-false}
@@ -13,11 +14,15 @@ use Rattle.line.specs.Layout.{width, line_bytes}
 use Rattle.line.specs.Field.{parse, number_of}
 use Rattle.checks.specs.Sheet.{line_count, sheet_of}
 use Rattle.checks.specs.Checks.{first_refusal, faults}
-use Rattle.sheet.specs.Calls.{accepted, reading_of}
+use Rattle.sheet.specs.Calls.{accepted, refused, reading_of}
+use Rattle.sheet.specs.FeedSheets.{as_reading}
+use Rattle.sheet.specs.declared.feed_sheet.FeedSheet.{FeedSheet}
+use Rattle.sheet.proofs.FeedSheetLaws.{err_numbered}
+use Rattle.sheet.proofs.OwnCheckLaws.{bytes_read}
+use Rattle.checks.specs.declared.Refusal.{Refusal}
 use Rattle.lookup.specs.LookUp.{look_up, first_line, place_of, byte_from}
 use Rattle.lookup.specs.Parts.{line_after, nowhere}
 use Rattle.lookup.specs.declared.Part.{Part}
-use Rattle.sheet.specs.declared.Reading.{Reading}
 use Rattle.sheet.proofs.LineSteps.{value_place}
 use Rattle.sheet.proofs.CallLaws.{reading_of_accepted, faults_reading_of}
 use Rattle.lookup.proofs.LookUpLaws.{look_up_accepted, look_up_refused, look_up_none}
@@ -227,6 +232,16 @@ before_or_past b tank f a i h p q t = go (ltb f a) refl
         before true o = h.before i p (ltb-true i f o) t
         before false o = h.past i (omega (arith, ltb-false i f o, ltb-false f a e)) q t
 
--- the faults of a sheet that was read without refusal
-pub read_faults : (b : List ℕ) (r : Reading) → r ≡ reading_of b → r.number ≡ 0 → faults b ≡ []
-read_faults b r e z = faults_reading_of b (sym (ap (λ x. x.number) e) ∙ z)
+none_some : {X : Type 0} {x : X} → None ≡ Some x → ⊥
+none_some e = let n : ◌≡◌ {A = ℕ} 0 1 = cc in omega arith
+
+-- a sheet that was read has no fault, ..
+pub read_accepted : (b : List ℕ) (x : Result FeedSheet Refusal) {f : FeedSheet} → as_reading x ≡ reading_of b → result_ok x ≡ Some f → faults b ≡ []
+read_accepted b (Ok f) e q = faults_reading_of b (sym (ap (λ x. x.number) e))
+read_accepted b (Err r) e q = absurd (none_some q)
+
+-- .. and a look-up in one that was not finds nothing
+pub read_refused : (b : List ℕ) (tank : ℕ) (x : Result FeedSheet Refusal) → as_reading x ≡ reading_of b → result_ok x ≡ None → nowhere ≡ place_of b tank
+unfolding refused
+read_refused b tank (Ok f) e q = absurd (none_some (sym q))
+read_refused b tank (Err r) e q = place_unread b tank (λ z. err_numbered r (bytes_read _ e) (ap (λ x. x.number) e ∙ z))

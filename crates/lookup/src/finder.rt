@@ -11,9 +11,7 @@ use line::layout::LINE;
 fn lines_of(b: &[u8], tank: u32) -> Option<Part>
     ensures { unwrap_or result nowhere ≡ place_of b.now tank }
 {
-    if sheet::read(b).number != 0 {
-        return None;
-    }
+    sheet::read_sheet(b).ok()?;
     let lines = b.len() / LINE;
     let first = (1..lines).find(|i| line::field_number(b, LINE * *i) == tank)?;
     // tanks never fall from line to line: the lines of this one follow each other
