@@ -1,5 +1,5 @@
 -- How the answer of the call that lists causes follows from what it read, found and wrote. Assumes nothing.
-use Rattle.std.specs.Prelude.{◌≡◌, refl, Bool, true, false, not, Option, Some, None, List, ℕ, ◌≤◌, ◌<◌, length, replicate}
+use Rattle.std.specs.Prelude.{◌≡◌, refl, Bool, true, false, not, Option, Some, None, ok_or, List, ℕ, ◌≤◌, ◌<◌, length, replicate}
 use Rattle.std.proofs.Common.{sym, ap, subst, arith, lt-ltb, le-ltb, ne_eqb}
 use Rattle.checks.specs.declared.Refusal.{Refusal}
 use Rattle.sheet.specs.declared.Reading.{Reading}
@@ -21,7 +21,7 @@ use Rattle.planning.proofs.AloneLaws.{alone_in_range}
 use Rattle.planning.proofs.DayLaws.{read_alone}
 use Rattle.planning.proofs.CallAnswers.{by_read, by_short, by_outcome}
 use Rattle.causes.specs.declared.CausesAnswer.{CausesAnswer}
-use Rattle.causes.specs.CauseCalls.{endings_of, short_causes, causes_answer, causes_after}
+use Rattle.causes.specs.CauseCalls.{endings_of, short_causes, causes_answer, causes_after, Answered, as_causes}
 use Rattle.causes.specs.EndingLaws.{endings_whole}
 
 pub short_causes_lem : (out : List ℕ) → length out < causes_bytes → short_causes out ≡ true
@@ -31,10 +31,6 @@ short_causes_lem out l = lt-ltb (length out) causes_bytes l
 pub room_causes : (out : List ℕ) → causes_bytes ≤ length out → short_causes out ≡ false
 unfolding short_causes
 room_causes out l = le-ltb (length out) causes_bytes l
-
--- the answer, and the buffer afterwards
-abbrev pub Answered : Refusal → List EndedStretch → (old new : List ℕ) → CausesAnswer → Type 0
-Answered f es old new a = (a ≡ causes_answer f es) × (new ≡ causes_after f es old)
 
 -- a refusal
 refused : {f q : Refusal} → q ≡ f → (q.number ≡ 0 → ⊥) → (es : List EndedStretch) (old : List ℕ)
@@ -73,7 +69,7 @@ module _ {own : List Refusal} {s : Sheet} {r : Reading} (h : ReadFrom own s r) (
           → DayCauses d s.slots s.blowers (left (alone s)) (room (alone s)) old new
       day d = read_alone h z (λ slots m ds high. DayCauses d slots m ds high old new)
 
-      pub causes_held : DayCauses None r.slots r.blowers (demands_from r.slots r.rations r.numbers) (replicate r.slots r.blowers) old new
+      causes_held : DayCauses None r.slots r.blowers (demands_from r.slots r.rations r.numbers) (replicate r.slots r.blowers) old new
           → Answered (plan_refusal_for own s short) es old new (record { number = no_placing; line = 0; length = 0; cut = false })
       unfolding can_be_planned no_low
       causes_held k =
@@ -81,10 +77,16 @@ module _ {own : List Refusal} {s : Sheet} {r : Reading} (h : ReadFrom own s r) (
           subst (λ x. Answered (plan_refusal_for own s short) es old x (record { number = no_placing; line = 0; length = 0; cut = false })) (sym d.1)
           (refused (outcome l false d.0) (λ i. omega arith) es old)
 
-      pub causes_day : (x : Extent) → DayCauses (Some x) r.slots r.blowers (demands_from r.slots r.rations r.numbers) (replicate r.slots r.blowers) old new
+      causes_day : (x : Extent) → DayCauses (Some x) r.slots r.blowers (demands_from r.slots r.rations r.numbers) (replicate r.slots r.blowers) old new
           → Answered (plan_refusal_for own s short) es old new (record { number = 0; line = 0; length = x.length; cut = x.cut })
       unfolding can_be_planned no_low
       causes_day x k =
           let d = day (Some x) k in
           listed (outcome l true d.0)
           (subst (λ vs. Listing vs old new x) (sym (endings_whole (alone s) (alone_in_range s (read_values h z)) refl d.0)) d.1)
+
+      -- of whatever the day gave
+      pub causes_found : (d : Option Extent) → DayCauses d r.slots r.blowers (demands_from r.slots r.rations r.numbers) (replicate r.slots r.blowers) old new
+          → Answered (plan_refusal_for own s short) es old new (as_causes (ok_or d (record { number = no_placing; line = 0 })))
+      causes_found None k = causes_held k
+      causes_found (Some x) k = causes_day x k

@@ -1,12 +1,13 @@
 -- The call that lists the causes of a day's stretches: what it answers, and what it leaves in the buffer lent to it.
 -- Definitions only. Assumes nothing.
-use Rattle.std.specs.Prelude.{Bool, ◌&&◌, cond, List, ℕ, ltb, eqb, length}
+use Rattle.std.specs.Prelude.{◌≡◌, Bool, false, ◌&&◌, cond, Result, Ok, Err, List, ℕ, ltb, eqb, length}
 use Rattle.common.specs.Buffers.{over}
 use Rattle.checks.specs.declared.Refusal.{Refusal}
 use Rattle.method.specs.Method.{bounds_under}
 use Rattle.method.specs.Keeping.{stretches}
 use Rattle.method.specs.Endings.{EndedStretch, in_order, endings}
 use Rattle.plan_lines.specs.Sizes.{causes_bytes}
+use Rattle.cause_lines.specs.declared.Extent.{Extent}
 use Rattle.cause_lines.specs.Entries.{causes_text, is_cut}
 use Rattle.planning.specs.Problem.{Problem, left, room, counts_of}
 use Rattle.causes.specs.declared.CausesAnswer.{CausesAnswer}
@@ -34,3 +35,12 @@ causes_answer r es =
 -- all do
 unfoldable pub causes_after : Refusal → List EndedStretch → (old : List ℕ) → List ℕ
 causes_after r es old = cond (eqb r.number 0) (over (causes_text es) old) old
+
+-- the answer, and the buffer afterwards
+abbrev pub Answered : Refusal → List EndedStretch → (old new : List ℕ) → CausesAnswer → Type 0
+Answered f es old new a = (a ≡ causes_answer f es) × (new ≡ causes_after f es old)
+
+-- a listing's length and whether it was cut, or a refusal, as an answer
+abbrev pub as_causes : Result Extent Refusal → CausesAnswer
+as_causes (Ok x) = record { number = 0; line = 0; length = x.length; cut = x.cut }
+as_causes (Err f) = record { number = f.number; line = f.line; length = 0; cut = false }

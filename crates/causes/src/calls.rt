@@ -1,23 +1,52 @@
 // The call that lists causes.
-ghost use Rattle.std.specs.Prelude.{◌≡◌, false};
+ghost use Rattle.std.specs.Prelude.{◌≡◌};
 ghost use Rattle.checks.specs.Sheet.{sheet_of};
 ghost use Rattle.planning.specs.Problem.{alone};
 ghost use Rattle.planning.specs.Planning.{plan_refusal};
-ghost use Rattle.causes.specs.CauseCalls.{endings_of, short_causes, causes_answer, causes_after};
+ghost use Rattle.causes.specs.CauseCalls.{endings_of, short_causes, causes_answer, causes_after, as_causes, Answered};
 
 use crate::CausesAnswer;
-use checks::refusals::{NO_PLACING, SHORT_BUFFER};
+use cause_lines::Extent;
+use checks::{Fault, Refusal};
 use plan_lines::sizes::CAUSES_BYTES;
 
-// A refusal's answer: nothing was written.
-fn refuse(number: u32, line: u32) -> CausesAnswer
-    ensures { result ≡ record { number = number; line = line; length = 0; cut = false } }
+// Lists the causes of the day of a sheet's bytes; a day that is held is refused too.
+fn list_extent(b: &[u8], out: &mut [u8]) -> Result<Extent, Refusal>
+    ensures { Answered (plan_refusal b.now (short_causes out.old)) (endings_of (alone (sheet_of b.now))) out.old out.new (as_causes result) }
 {
-    CausesAnswer {
-        number,
-        line,
-        length: 0,
-        cut: false,
+    let sheet = sheet::read_sheet(b)?;
+    if out.len() < CAUSES_BYTES {
+        return Err(Fault::Buffer.on(0));
+    }
+    let extent = endings::list_day(
+        sheet.slots as usize,
+        sheet.blowers as u8,
+        sheet.rations as usize,
+        &sheet.numbers,
+        out,
+    );
+    extent.ok_or(Fault::Placing.on(0))
+}
+
+// A refusal has no listing.
+impl From<Result<Extent, Refusal>> for CausesAnswer {
+    ghost from_gives = { λ extent answer. answer ≡ as_causes extent };
+
+    fn from(extent: Result<Extent, Refusal>) -> CausesAnswer {
+        match extent {
+            Ok(extent) => CausesAnswer {
+                number: 0,
+                line: 0,
+                length: extent.length,
+                cut: extent.cut,
+            },
+            Err(refusal) => CausesAnswer {
+                number: refusal.number,
+                line: refusal.line,
+                length: 0,
+                cut: false,
+            },
+        }
     }
 }
 
@@ -28,27 +57,5 @@ pub fn list_causes(b: &[u8], out: &mut [u8]) -> CausesAnswer
     ensures value { result ≡ causes_answer (plan_refusal b.now (short_causes out.old)) (endings_of (alone (sheet_of b.now))) }
     ensures out_bytes { out.new ≡ causes_after (plan_refusal b.now (short_causes out.old)) (endings_of (alone (sheet_of b.now))) out.old }
 {
-    let sheet = sheet::read(b);
-    if sheet.number != 0 {
-        return refuse(sheet.number, sheet.line);
-    }
-    if out.len() < CAUSES_BYTES {
-        return refuse(SHORT_BUFFER, 0);
-    }
-    let numbers = sheet.numbers;
-    let Some(extent) = endings::list_day(
-        sheet.slots as usize,
-        sheet.blowers as u8,
-        sheet.rations as usize,
-        &numbers,
-        out,
-    ) else {
-        return refuse(NO_PLACING, 0);
-    };
-    CausesAnswer {
-        number: 0,
-        line: 0,
-        length: extent.length,
-        cut: extent.cut,
-    }
+    CausesAnswer::from(list_extent(b, out))
 }

@@ -1,5 +1,5 @@
 -- The comparison of two sheets: what the call answers (request 109). Definitions only. Assumes nothing.
-use Rattle.std.specs.Prelude.{not, cond, List, ℕ, eqb}
+use Rattle.std.specs.Prelude.{not, cond, Result, Ok, Err, List, ℕ, eqb}
 use Rattle.checks.specs.declared.Refusal.{Refusal}
 use Rattle.checks.specs.Sheet.{sheet_of}
 use Rattle.checks.specs.Checks.{first_refusal, faults}
@@ -26,3 +26,8 @@ unfoldable pub compared_of : List ℕ → List ℕ → Compared
 compared_of a b =
     let r : Refusal = compare_refusal a b in
     record { number = r.number; line = r.line; order = order_number (order_of a b) }
+
+-- an order, or a refusal, as an answer
+abbrev pub as_compared : Result Order Refusal → Compared
+as_compared (Ok o) = record { number = 0; line = 0; order = order_number o }
+as_compared (Err f) = record { number = f.number; line = f.line; order = order_number No }

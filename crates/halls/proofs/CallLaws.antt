@@ -1,5 +1,5 @@
 -- How the answer of the call and its lent buffers follow from what was planned hall by hall. Assumes nothing.
-use Rattle.std.specs.Prelude.{◌≡◌, Bool, true, false, leb, take, drop}
+use Rattle.std.specs.Prelude.{◌≡◌, Bool, true, false, Result, Ok, Err, IfOk, leb, take, drop}
 use Rattle.std.proofs.Math.Path.{refl, sym, ap}
 use Rattle.std.proofs.Common.{◌∙◌, subst, arith, eq-eqb, ne_eqb}
 use Rattle.std.proofs.Math.Bool.{cond}
@@ -11,11 +11,18 @@ use Rattle.common.specs.Buffers.{padded}
 use Rattle.checks.specs.Limits.{max_slots}
 use Rattle.checks.specs.Refusals.{bad_halls}
 use Rattle.checks.specs.Sheet.{Sheet, sheet_of}
-use Rattle.checks.specs.Checks.{fault, outside, faults}
+use Rattle.checks.specs.Checks.{fault, first_refusal, outside, faults}
 use Rattle.checks.specs.FaultLaws.{false_fault, append_nil_parts, Numbered, numbered_append, numbered_fault}
 use Rattle.checks.specs.RangeLaws.{in_range_outside}
+use Rattle.checks.specs.Verdicts.{verdict}
+use Rattle.checks.proofs.VerdictLaws.{ok_verdict}
+use Rattle.checks.specs.declared.Refusal.{Refusal}
 use Rattle.sheet.specs.declared.Reading.{Reading}
+use Rattle.sheet.specs.declared.feed_sheet.FeedSheet.{FeedSheet}
+use Rattle.sheet.specs.Calls.{refused}
+use Rattle.sheet.specs.FeedSheets.{as_reading}
 use Rattle.sheet.specs.OwnChecks.{ReadFrom}
+use Rattle.sheet.proofs.FeedSheetLaws.{err_numbered}
 use Rattle.placing.specs.ReadLaws.{sheet_read_lem}
 use Rattle.stretches.specs.Days.{HighsOf}
 use Rattle.planning.specs.declared.Planned.{Planned}
@@ -42,6 +49,15 @@ highs_of_hall limit used b {r} h {H} e z =
       below = λ t l. omega (arith, hall_high_below limit used s.slots s.blowers t (omega (arith, a.slots)), a.blowers);
       bytes = e ∙ (λ i. padded max_slots (hall_high limit used (a.slots i) (a.blowers i)));
     }
+
+-- so are those that `highs_left` gives, where the sheet was not refused
+pub highs_of_read : (limit : ℕ) (used b : List ℕ) (x : Result FeedSheet Refusal) → ReadFrom (faults b) (sheet_of b) (as_reading x) → {H : List ℕ}
+    → IfOk x (λ f. H ≡ padded max_slots (hall_high limit used f.slots f.blowers))
+    → (as_reading x).number ≡ 0
+    → HighsOf (as_reading x).slots (as_reading x).blowers (let s = sheet_of b in hall_high limit used s.slots s.blowers) H
+unfolding refused
+highs_of_read limit used b (Ok f) h e z = highs_of_hall limit used b h e z
+highs_of_read limit used b (Err r) h e z = absurd (err_numbered r h z)
 
 -- what planning under them gives is what the definitions say of the hall
 module _ (limit : ℕ) (used b listing placing : List ℕ) {r : Reading} (h : ReadFrom (faults b) (sheet_of b) r) {H listing' placing' : List ℕ}
@@ -109,6 +125,15 @@ halls_in_range limit halls z =
     let l = in_range_outside 1 max_limit limit (false_fault bad_halls 0 _ p.0) in
     let n = in_range_outside 1 max_halls halls (false_fault bad_halls 0 _ p.1) in
     (l.ge, l.le, n.ge, n.le)
+
+-- what the code's check says of the limit and the halls
+pub checked_halls : (limit halls : ℕ) {x : Result (Unit {0}) Refusal} → x ≡ verdict (halls_refusal limit halls) → x ≡ Ok tt → (halls_refusal limit halls).number ≡ 0
+checked_halls limit halls e z = ok_verdict _ (sym z ∙ e)
+
+-- a call that is not refused names no line
+pub checked_line : (limit halls : ℕ) → (halls_refusal limit halls).number ≡ 0 → 0 ≡ (halls_refusal limit halls).line
+unfolding halls_refusal halls_faults first_refusal
+checked_line limit halls z = sym (ap (λ rs. (first_refusal rs).line) (numbered_halls limit halls z))
 
 -- where it refuses, no hall is planned
 module _ (limit halls : ℕ) (n : (halls_refusal limit halls).number ≡ 0 → ⊥) (a b c d : Hall) where

@@ -1,7 +1,7 @@
 -- What holds of halls behind one mains fuse (request 108): each is planned under what the earlier ones leave, all
 -- together stay within the limit, a later hall changes nothing for an earlier one, a refused one nothing for a later
 -- one, and one hall that the limit does not bind is planned as it is alone. Assumes nothing.
-use Rattle.std.specs.Prelude.{◌≡◌, refl, Bool, true, false, ◌||◌, cond, ℕ, zero, suc, ◌-◌, ◌≤◌, ◌<◌, eqb, length, take, drop}
+use Rattle.std.specs.Prelude.{◌≡◌, refl, Bool, true, false, ◌||◌, cond, ℕ, zero, suc, ◌≤◌, ◌<◌, eqb, length, take, drop}
 use Rattle.std.proofs.Common.{sym, ◌∙◌, arith, eq-eqb, ne_eqb}
 use Rattle.std.proofs.Math.Path.{ap}
 use mathlib.Core.List.{List, [], ◌∷◌, ◌++◌, map, cons≢nil}

@@ -1,8 +1,10 @@
 -- What the functions within the crate require and ensure. Definitions only. Assumes nothing.
 use Rattle.std.specs.Prelude.{◌≡◌, Bool, cond, List, ℕ, ◌≤◌, ◌<◌, length, get_or}
+use Rattle.checks.specs.declared.Refusal.{Refusal}
 use Rattle.checks.specs.Limits.{max_slots}
 use Rattle.halls.specs.declared.HallPlanned.{HallPlanned}
-use Rattle.halls.specs.Halls.{Hall, HallOutcome, max_limit, used_after, hall_outcome, not_planned}
+use Rattle.halls.specs.declared.HallsPlanned.{HallsPlanned}
+use Rattle.halls.specs.Halls.{Hall, HallOutcome, nothing, max_limit, used_after, hall_outcome, not_planned}
 
 -- what halls use under a limit of the call
 pub record Used (limit : ℕ) (used : List ℕ) : Type 0 where
@@ -29,3 +31,7 @@ used_if there limit used h = cond there (used_after limit used h) used
 pub record HallDoneIf (there : Bool) (limit : ℕ) (used : List ℕ) (h : Hall) (r : HallPlanned) (listing placing : List ℕ) : Type 0 where
   pub outcome : left r listing placing ≡ outcome_if there limit used h
   pub uses : r.used ≡ used_if there limit used h
+
+-- a refusal as the answer of the call
+abbrev pub refused_halls : Refusal → HallsPlanned
+refused_halls f = record { number = f.number; line = f.line; first = nothing; second = nothing; third = nothing; fourth = nothing }

@@ -1,17 +1,34 @@
 // The call that plans halls: hall after hall by thin functions, so that every hall's answer and buffers are an equation
-// of their own; what is used so far goes from one to the next.
-ghost use Rattle.std.specs.Prelude.{◌≡◌};
+// of their own; what is used so far goes from one to the next. The halls are parameters of their own and no slice, since
+// `kiwimound_plan_halls` hands over what C lends it for each.
+ghost use Rattle.std.specs.Prelude.{◌≡◌, IfOk};
+ghost use Rattle.common.specs.Buffers.{padded};
+ghost use Rattle.checks.specs.Limits.{max_slots};
+ghost use Rattle.checks.specs.Verdicts.{verdict};
+ghost use Rattle.hall_uses.specs.Uses.{hall_high};
 ghost use Rattle.halls.specs.Halls.{nothing, lent, four, halls_refusal, outcome_of, halls_answer};
-ghost use Rattle.halls.specs.Clauses.{Used, HallDone, HallDoneIf};
+ghost use Rattle.halls.specs.Clauses.{Used, HallDone, HallDoneIf, refused_halls};
 
 use crate::{HallPlanned, HallsPlanned};
-use checks::Refusal;
-use checks::refusals::BAD_HALLS;
+use checks::{Fault, Refusal};
 use planning::Planned;
+use sheet::FeedSheet;
 
 const MAX_LIMIT: u32 = 32;
 
 const MAX_HALLS: u32 = 4;
+
+// The highs that a limit leaves to the sheet that was read; one that was refused needs none.
+fn highs_left(limit: u8, used: &[u8; 96], sheet: &Result<FeedSheet, Refusal>) -> [u8; 96]
+    ensures { IfOk sheet.now (λ f. result ≡ padded max_slots (hall_high limit used.now f.slots f.blowers)) }
+{
+    match sheet {
+        Ok(sheet) => {
+            hall_uses::hall_highs(limit, used, sheet.slots as usize, sheet.blowers as u8)
+        }
+        Err(_) => [0u8; 96],
+    }
+}
 
 // Plans one hall under what earlier halls use.
 fn plan_hall(
@@ -24,18 +41,17 @@ fn plan_hall(
     requires { Used limit used.now }
     ensures { HallDone limit used.now (lent b.now listing.old placing.old) result listing.new placing.new }
 {
-    let reading = sheet::read(b);
-    let highs = hall_uses::hall_highs(limit, used, reading.slots as usize, reading.blowers as u8);
-    let day = planning::plan_under(reading, &highs, listing, placing);
-    let planned = day.planned;
-    let counts = day.counts;
+    let sheet = sheet::read_sheet(b);
+    let highs = highs_left(limit, used, &sheet);
+    let day = planning::plan_under(sheet, &highs, listing, placing);
     HallPlanned {
-        planned,
-        used: hall_uses::add_used(used, &counts),
+        planned: day.planned,
+        used: hall_uses::add_used(used, &day.counts),
     }
 }
 
-// A hall that is there is planned; one that is not is left as it was lent.
+// A hall that is there is planned; one that is not is left as it was lent. A function of its own, since what a hall uses
+// after an `if` within `plan_halls` is lost to the proof of the next one.
 fn plan_hall_if(
     there: bool,
     limit: u8,
@@ -68,48 +84,29 @@ fn no_answer() -> Planned
 }
 
 // 14: the limit is outside 1 to 32, or the halls outside 1 to 4.
-fn halls_refusal(limit: u32, halls: u32) -> Refusal
-    ensures { result ≡ halls_refusal limit halls }
+fn check_halls(limit: u32, halls: u32) -> Result<(), Refusal>
+    ensures { result ≡ verdict (halls_refusal limit halls) }
 {
-    if limit < 1 {
-        return Refusal {
-            number: BAD_HALLS,
-            line: 0,
-        };
+    if !(1..=MAX_LIMIT).contains(&limit) || !(1..=MAX_HALLS).contains(&halls) {
+        return Err(Fault::Halls.on(0));
     }
-    if MAX_LIMIT < limit {
-        return Refusal {
-            number: BAD_HALLS,
-            line: 0,
-        };
-    }
-    if halls < 1 {
-        return Refusal {
-            number: BAD_HALLS,
-            line: 0,
-        };
-    }
-    if MAX_HALLS < halls {
-        return Refusal {
-            number: BAD_HALLS,
-            line: 0,
-        };
-    }
-    Refusal { number: 0, line: 0 }
+    Ok(())
 }
 
-// An answer that plans no hall.
-fn refuse_halls(number: u32, line: u32) -> HallsPlanned
-    ensures { result ≡ record { number = number; line = line; first = nothing; second = nothing; third = nothing; fourth = nothing } }
-{
-    let none = no_answer();
-    HallsPlanned {
-        number,
-        line,
-        first: none,
-        second: none,
-        third: none,
-        fourth: none,
+// A refusal plans no hall.
+impl From<Refusal> for HallsPlanned {
+    ghost from_gives = { λ refusal planned. planned ≡ refused_halls refusal };
+
+    fn from(refusal: Refusal) -> HallsPlanned {
+        let none = no_answer();
+        HallsPlanned {
+            number: refusal.number,
+            line: refusal.line,
+            first: none,
+            second: none,
+            third: none,
+            fourth: none,
+        }
     }
 }
 
@@ -160,9 +157,8 @@ pub fn plan_halls(
         (lent sheet_3.now listing_3.old placing_3.old)
         (lent sheet_4.now listing_4.old placing_4.old)) 3).buffers }
 {
-    let refusal = halls_refusal(limit, halls);
-    if refusal.number != 0 {
-        return refuse_halls(refusal.number, refusal.line);
+    if let Err(refusal) = check_halls(limit, halls) {
+        return HallsPlanned::from(refusal);
     }
     let most = limit as u8;
     let none = [0u8; 96];
@@ -178,8 +174,8 @@ pub fn plan_halls(
     let third = hall_3.planned;
     let fourth = hall_4.planned;
     HallsPlanned {
-        number: refusal.number,
-        line: refusal.line,
+        number: 0,
+        line: 0,
         first,
         second,
         third,

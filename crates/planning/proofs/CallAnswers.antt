@@ -1,8 +1,8 @@
 -- How a planning call's answer and its lent buffers follow from what it read, found and wrote, whatever checks its
 -- sheet passed, whatever problem was planned and whatever buffers it was lent. Assumes nothing.
-use Rattle.std.specs.Prelude.{◌≡◌, Bool, true, false, not, ◌||◌, cond, Result, is_err, ℕ, ◌≤◌, ◌<◌, ltb}
+use Rattle.std.specs.Prelude.{◌≡◌, ◌⊎◌, Bool, true, false, not, ◌||◌, cond, Result, is_err, ℕ, ◌≤◌, ◌<◌}
 use Rattle.std.proofs.Math.Path.{refl, sym, ap, subst}
-use Rattle.std.proofs.Common.{◌∙◌, arith, lt-ltb, le-ltb, ltb-false, ne_eqb}
+use Rattle.std.proofs.Common.{◌∙◌, inl, inr, arith, lt-ltb, le-ltb, ltb-false, ne_eqb}
 use mathlib.Core.List.{List, [], ◌∷◌, ◌++◌, cons≢nil}
 use Rattle.std.proofs.Math.ListN.{length, replicate}
 use Rattle.checks.specs.declared.Refusal.{Refusal}
@@ -10,6 +10,7 @@ use Rattle.sheet.specs.declared.Reading.{Reading}
 use Rattle.checks.specs.Refusals.{short_buffer, no_placing}
 use Rattle.checks.specs.Sheet.{Sheet}
 use Rattle.checks.specs.Checks.{fault, first_refusal}
+use Rattle.common.specs.Tests.{or_left, or_right}
 use Rattle.common.specs.Buffers.{over, padded}
 use Rattle.checks.specs.Limits.{max_slots}
 use Rattle.checks.specs.FaultLaws.{Numbered}
@@ -39,10 +40,9 @@ pub long_plan : (out : List ℕ) → short_plan out ≡ false → plan_bytes ≤
 unfolding short_plan
 long_plan out e = ltb-false (length out) plan_bytes e
 
--- what the test of a placing buffer gives
-pub tested_placing : (out : List ℕ) {x : Bool} → x ≡ ltb (length out) placing_words → short_placing out ≡ x
+pub short_placing_lem : (out : List ℕ) → length out < placing_words → short_placing out ≡ true
 unfolding short_placing
-tested_placing out e = sym e
+short_placing_lem out l = lt-ltb (length out) placing_words l
 
 pub long_placing : (out : List ℕ) → short_placing out ≡ false → placing_words ≤ length out
 unfolding short_placing
@@ -54,6 +54,12 @@ room_placing out l = le-ltb (length out) placing_words l
 
 pub neither : (x y : Bool) → x ≡ false → y ≡ false → (x || y) ≡ false
 neither x y e f = rw (e, f)
+
+-- a buffer is too short: the plan's, or the placing's
+pub either_short : (listing placing : List ℕ) → (length listing < plan_bytes) ⊎ ((plan_bytes ≤ length listing) × (length placing < placing_words))
+    → (short_plan listing || short_placing placing) ≡ true
+either_short listing placing (inl l) = or_left (short_placing placing) (short_plan_lem listing l)
+either_short listing placing (inr l) = or_right (short_plan listing) (short_placing_lem placing l.1)
 
 -- ---- what number 0, and what number 12, says of a call that plans: its sheet is well-formed, no buffer is too short,
 -- and the sheet is planned or held

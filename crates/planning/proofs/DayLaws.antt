@@ -1,5 +1,5 @@
 -- The day of a problem (`DayOf`): where it is that of a whole day, and what may be written for it. Assumes nothing.
-use Rattle.std.specs.Prelude.{◌≡◌, refl, true, false, not, cond, Result, Ok, Err, is_err, ℕ, ◌*◌, ◌≤◌, ◌<◌, get_or, take, replicate}
+use Rattle.std.specs.Prelude.{◌≡◌, refl, true, not, cond, Result, Ok, Err, is_err, ℕ, ◌*◌, ◌≤◌, ◌<◌, get_or, take, replicate}
 use Rattle.std.proofs.Math.Path.{sym, ap, subst}
 use Rattle.std.proofs.Common.{ap₂, ◌∙◌, ext_get_or, get_or-take, length-take-le}
 use mathlib.Core.List.{List, map}
@@ -21,7 +21,7 @@ use Rattle.checks.specs.RangeLaws.{ValuesInRange}
 use Rattle.sheet.specs.OwnChecks.{ReadFrom}
 use Rattle.sheet.proofs.OwnCheckLaws.{read_is, read_values}
 use Rattle.schedules.specs.Schedules.{Demand}
-use Rattle.schedules.specs.Shortfall.{forced, capacity}
+use Rattle.schedules.specs.Shortfall.{forced}
 use Rattle.schedules.specs.Demands.{no_low, full_high}
 use Rattle.placing.specs.Rations.{demands_from}
 use Rattle.schedules.proofs.DemandLaws.{length_demands_of}

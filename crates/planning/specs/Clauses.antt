@@ -119,3 +119,14 @@ ReadUnder r H old new old' new' x =
 -- with none
 abbrev pub ReadNumbered : Reading → Planned → Type 0
 ReadNumbered r p = (own : List Refusal) (s : Sheet) → ReadFrom own s r → p ≡ unlisted_answer (plan_refusal_for own s false)
+
+-- What is answered -----------------------------------------------------------------------------
+
+-- what was planned, or a refusal, as an answer
+abbrev pub as_planned : Result Planned Refusal → Planned
+as_planned (Ok p) = p
+as_planned (Err f) = record { number = f.number; line = f.line; length = 0 }
+
+abbrev pub as_planned_day : Result PlannedDay Refusal → PlannedDay
+as_planned_day (Ok x) = x
+as_planned_day (Err f) = record { planned = record { number = f.number; line = f.line; length = 0 }; counts = replicate max_slots 0 }

@@ -6,7 +6,6 @@ ghost use Rattle.records.specs.Records.{record_sheet, record_faults};
 
 use crate::{Ration, readings};
 use planning::Planned;
-use sheet::Reading;
 
 // Plans the day of a record for each ration, with a plan buffer lent: what `planning::plan` answers and writes for the sheet that these records make, and nothing
 // written on any refusal but 12.
@@ -21,6 +20,6 @@ pub extern "C" fn kiwimound_plan_rations(
     ensures { (result ≡ listed_answer (plan_refusal_for (record_faults (record_sheet slots blowers wake rations.now)) (record_sheet slots blowers wake rations.now) (short_plan listing.old)) (listing_of (alone (record_sheet slots blowers wake rations.now))))
         × (listing.new ≡ listing_after (plan_refusal_for (record_faults (record_sheet slots blowers wake rations.now)) (record_sheet slots blowers wake rations.now) (short_plan listing.old)) (listing_of (alone (record_sheet slots blowers wake rations.now))) listing.old) }
 {
-    let reading = Reading::from(readings::read_rations(slots, blowers, wake, rations));
-    planning::plan_of(reading, listing)
+    let sheet = readings::read_rations(slots, blowers, wake, rations);
+    planning::plan_of(sheet, listing)
 }

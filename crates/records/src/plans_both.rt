@@ -6,7 +6,6 @@ ghost use Rattle.records.specs.Records.{record_sheet, record_faults};
 
 use crate::{Ration, readings};
 use planning::Planned;
-use sheet::Reading;
 
 // Plans the day of a record for each ration, with a plan buffer and a placing buffer lent: what `planning::plan_both`
 // answers and writes for the sheet that these records make, and nothing written on any refusal but 12.
@@ -23,6 +22,6 @@ pub extern "C" fn kiwimound_plan_rations_both(
         × (listing.new ≡ listing_after (plan_refusal_for (record_faults (record_sheet slots blowers wake rations.now)) (record_sheet slots blowers wake rations.now) (short_plan listing.old || short_placing placing.old)) (listing_of (alone (record_sheet slots blowers wake rations.now))) listing.old)
         × (placing.new ≡ placing_after (plan_refusal_for (record_faults (record_sheet slots blowers wake rations.now)) (record_sheet slots blowers wake rations.now) (short_plan listing.old || short_placing placing.old)) (words_for (alone (record_sheet slots blowers wake rations.now))) placing.old) }
 {
-    let reading = Reading::from(readings::read_rations(slots, blowers, wake, rations));
-    planning::plan_both_of(reading, listing, placing)
+    let sheet = readings::read_rations(slots, blowers, wake, rations);
+    planning::plan_both_of(sheet, listing, placing)
 }

@@ -4,33 +4,25 @@ use mathlib.Core.Bool.{Bool, true, false, ◌||◌}
 use mathlib.Core.List.{List, []}
 use Prim.Native.Nat.{ℕ, ◌≤◌}
 use native.Mathlib.Omega.{arith}
-use lib.ListN.{length}
 use borrow.Author.Tests.{ne_eqb}
 use Rattle.checks.specs.declared.Refusal.{Refusal}
 use Rattle.checks.specs.Refusals.{short_buffer, no_placing}
 use Rattle.checks.specs.Sheet.{Sheet, sheet_of}
 use Rattle.checks.specs.Checks.{fault, first_refusal, faults}
 use Rattle.sheet.specs.declared.Reading.{Reading}
-use Rattle.sheet.specs.OwnChecks.{ReadFrom, SomeReading, ReadSheet}
+use Rattle.sheet.specs.OwnChecks.{ReadFrom}
 use Rattle.sheet.proofs.OwnCheckLaws.{refused_before, accepted_before, not_held}
 use Rattle.cuts.specs.Cuts.{max_share, cut_sheet, greatest_share}
 use Rattle.cuts.proofs.Theorems.{share_most}
-use Rattle.cuts.proofs.ReadLaws.{cut_read, cut_some}
+use Rattle.cuts.proofs.ReadLaws.{cut_read}
 use Rattle.cuts.specs.Clauses.{CutFrom, ShareFound}
 use Rattle.planning.specs.declared.Planned.{Planned}
 use Rattle.planning.specs.Problem.{alone, listing_of, words_for}
 use Rattle.planning.specs.Planning.{plan_refusal_for, short_plan, short_placing, writes, listed_answer, listing_after, placing_after}
 use Rattle.planning.specs.Clauses.{ReadBoth}
 use Rattle.planning.proofs.CallAnswers.{writes_nothing, listed_nothing, placed_nothing}
-use Rattle.shares.specs.declared.SharePlanned.{SharePlanned}
-use Rattle.shares.specs.Shares.{share_problem, share_refusal, share_answer}
+use Rattle.shares.specs.Shares.{share_problem, share_refusal, share_answer, ShareAt}
 use Rattle.shares.specs.Theorems.{share_planned}
-
--- the answer and both buffers afterwards, at a refusal
-pub record ShareAt (f : Refusal) (s : Sheet) (listing listing' placing placing' : List ℕ) (a : SharePlanned) : Type 0 where
-  pub answer : a ≡ share_answer f s
-  pub listed : listing' ≡ listing_after f (listing_of (share_problem s)) listing
-  pub placed : placing' ≡ placing_after f (words_for (share_problem s)) placing
 
 -- a number other than 0 and 12 leaves everything as it was
 refused_at : (f : Refusal) (s : Sheet) (listing placing : List ℕ) → (f.number ≡ 0 → ⊥) → (f.number ≡ no_placing → ⊥)
@@ -47,9 +39,6 @@ refused_at f s listing placing n k =
 -- What was read, the share found, and what would be read of the cut sheet --------------------
 
 module _ (b : List ℕ) {r : Reading} (h : ReadFrom (faults b) (sheet_of b) r) where
-  pub share_read : r.number ≡ 0 → ReadSheet r
-  share_read z = record { some = record { own = faults b; sheet = sheet_of b; read = h }; zero = z }
-
   module _ {share : ℕ} (found : ShareFound r share) where
     greatest : share ≡ greatest_share (sheet_of b)
     greatest = found (faults b) (sheet_of b) h
@@ -59,9 +48,6 @@ module _ (b : List ℕ) {r : Reading} (h : ReadFrom (faults b) (sheet_of b) r) w
 
     read : r.number ≡ 0 → {x : Reading} → CutFrom share r x → ReadFrom [] (cut_sheet share (sheet_of b)) x
     read z cut = cut_read h z share share_within (cut (faults b) (sheet_of b) h)
-
-    pub cut_reading : r.number ≡ 0 → {x : Reading} → CutFrom share r x → SomeReading x
-    cut_reading z cut = cut_some (share_read z) share share_within cut
 
 -- The answer -----------------------------------------------------------------------------
 

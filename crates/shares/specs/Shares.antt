@@ -1,13 +1,14 @@
 -- Short rations, equally cut (request 111): what the call that plans the greatest share answers. What it leaves in the
 -- lent buffers is `listing_after` and `placing_after` of `planning` at this refusal and this problem. The cut sheet and
 -- the greatest share are in Cuts.antt of `cuts`. Definitions only. Assumes nothing.
-use Rattle.std.specs.Prelude.{Bool, cond, List, ℕ, eqb, length}
+use Rattle.std.specs.Prelude.{◌≡◌, Bool, cond, Result, Ok, Err, List, ℕ, eqb, length}
 use Rattle.checks.specs.declared.Refusal.{Refusal}
 use Rattle.checks.specs.Sheet.{Sheet}
 use Rattle.checks.specs.Checks.{first_refusal, faults}
 use Rattle.checks.specs.CallChecks.{buffer_checks}
 use Rattle.cuts.specs.Cuts.{cut_sheet, greatest_share}
-use Rattle.planning.specs.Problem.{Problem, alone, listing_of}
+use Rattle.planning.specs.Problem.{Problem, alone, listing_of, words_for}
+use Rattle.planning.specs.Planning.{listing_after, placing_after}
 use Rattle.shares.specs.declared.SharePlanned.{SharePlanned}
 
 -- what is planned: the sheet cut to the greatest share, alone
@@ -27,3 +28,14 @@ share_answer r s =
       length = cond (eqb r.number 0) (length (listing_of (share_problem s))) 0;
       share = cond (eqb r.number 0) (greatest_share s) 0;
     }
+
+-- the answer and both buffers afterwards, at a refusal
+pub record ShareAt (f : Refusal) (s : Sheet) (listing listing' placing placing' : List ℕ) (a : SharePlanned) : Type 0 where
+  pub answer : a ≡ share_answer f s
+  pub listed : listing' ≡ listing_after f (listing_of (share_problem s)) listing
+  pub placed : placing' ≡ placing_after f (words_for (share_problem s)) placing
+
+-- what was planned, or a refusal, as an answer
+abbrev pub as_share : Result SharePlanned Refusal → SharePlanned
+as_share (Ok p) = p
+as_share (Err f) = record { number = f.number; line = f.line; length = 0; share = 0 }

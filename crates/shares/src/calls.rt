@@ -1,23 +1,84 @@
 // The call that plans the greatest share of a sheet's rations.
-ghost use Rattle.std.specs.Prelude.{◌≡◌, ◌||◌};
+ghost use Rattle.std.specs.Prelude.{◌≡◌, ◌||◌, ◌≤◌};
+ghost use Rattle.sheet.specs.FeedSheets.{sheet_reading};
+ghost use Rattle.cuts.specs.Cuts.{max_share};
+ghost use Rattle.cuts.specs.Clauses.{CutFrom};
 ghost use Rattle.checks.specs.Sheet.{sheet_of};
 ghost use Rattle.planning.specs.Problem.{listing_of, words_for};
 ghost use Rattle.planning.specs.Planning.{short_plan, short_placing, listing_after, placing_after};
-ghost use Rattle.shares.specs.Shares.{share_problem, share_refusal, share_answer};
+ghost use Rattle.shares.specs.Shares.{share_problem, share_refusal, share_answer, ShareAt, as_share};
 
 use crate::SharePlanned;
-use checks::refusals::SHORT_BUFFER;
+use checks::{Fault, Refusal};
 use plan_lines::sizes::{PLACING_WORDS, PLAN_BYTES};
+use sheet::{FeedSheet, Reading};
 
-// An answer that plans nothing.
-fn refuse_share(number: u32, line: u32) -> SharePlanned
-    ensures { result ≡ record { number = number; line = line; length = 0; share = 0 } }
+// An accepted sheet as a reading of it.
+fn as_read(sheet: &FeedSheet) -> Reading
+    ensures { result ≡ sheet_reading sheet.now }
 {
-    SharePlanned {
-        number,
-        line,
-        length: 0,
-        share: 0,
+    let numbers = sheet.numbers;
+    Reading {
+        number: 0,
+        line: 0,
+        slots: sheet.slots,
+        blowers: sheet.blowers,
+        wake: sheet.wake,
+        rations: sheet.rations,
+        numbers,
+    }
+}
+
+// The sheet cut to a share.
+fn cut_to(share: u32, sheet: &FeedSheet) -> FeedSheet
+    requires { share ≤ max_share }
+    ensures { CutFrom share (sheet_reading sheet.now) (sheet_reading result) }
+{
+    let cut = cuts::cut_sheet(share, as_read(sheet));
+    let numbers = cut.numbers;
+    FeedSheet {
+        slots: cut.slots,
+        blowers: cut.blowers,
+        wake: cut.wake,
+        rations: cut.rations,
+        numbers,
+    }
+}
+
+// Plans the sheet cut to its greatest share.
+fn plan_cut(b: &[u8], listing: &mut [u8], placing: &mut [u64]) -> Result<SharePlanned, Refusal>
+    ensures { ShareAt (share_refusal b.now (short_plan listing.old || short_placing placing.old)) (sheet_of b.now)
+        listing.old listing.new placing.old placing.new (as_share result) }
+{
+    let sheet = sheet::read_sheet(b)?;
+    if listing.len() < PLAN_BYTES || placing.len() < PLACING_WORDS {
+        return Err(Fault::Buffer.on(0));
+    }
+    let share = cuts::greatest_share(as_read(&sheet));
+    let cut = cut_to(share, &sheet);
+    let planned = planning::plan_both_of(Ok(cut), listing, placing);
+    Ok(SharePlanned {
+        number: planned.number,
+        line: planned.line,
+        length: planned.length,
+        share,
+    })
+}
+
+// A refusal plans nothing.
+impl From<Result<SharePlanned, Refusal>> for SharePlanned {
+    ghost from_gives = { λ found planned. planned ≡ as_share found };
+
+    fn from(found: Result<SharePlanned, Refusal>) -> SharePlanned {
+        match found {
+            Ok(planned) => planned,
+            Err(refusal) => SharePlanned {
+                number: refusal.number,
+                line: refusal.line,
+                length: 0,
+                share: 0,
+            },
+        }
     }
 }
 
@@ -31,23 +92,5 @@ pub fn plan_share(b: &[u8], listing: &mut [u8], placing: &mut [u64]) -> SharePla
     ensures listing_bytes { listing.new ≡ listing_after (share_refusal b.now (short_plan listing.old || short_placing placing.old)) (listing_of (share_problem (sheet_of b.now))) listing.old }
     ensures placing_bytes { placing.new ≡ placing_after (share_refusal b.now (short_plan listing.old || short_placing placing.old)) (words_for (share_problem (sheet_of b.now))) placing.old }
 {
-    let sheet = sheet::read(b);
-    if sheet.number != 0 {
-        return refuse_share(sheet.number, sheet.line);
-    }
-    if listing.len() < PLAN_BYTES {
-        return refuse_share(SHORT_BUFFER, 0);
-    }
-    if placing.len() < PLACING_WORDS {
-        return refuse_share(SHORT_BUFFER, 0);
-    }
-    let share = cuts::greatest_share(sheet);
-    let cut = cuts::cut_sheet(share, sheet);
-    let planned = planning::plan_both_of(cut, listing, placing);
-    SharePlanned {
-        number: planned.number,
-        line: planned.line,
-        length: planned.length,
-        share,
-    }
+    SharePlanned::from(plan_cut(b, listing, placing))
 }

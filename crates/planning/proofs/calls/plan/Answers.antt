@@ -3,9 +3,6 @@ use Rattle.sheet.proofs.OwnCheckLaws.{bytes_read}
 use Rattle.planning.specs.Planning.{plan_refusal}
 use Rattle.planning.proofs.calls.plan.Goals as goal
 
-pub plan_of-requires : goal.plan_of-requires
-plan_of-requires c = record { own = _; sheet = _; read = bytes_read _ c.read.ensures }
-
 pub returns : goal.returns
 unfolding plan_refusal
-returns c = let all = c.plan_of.ensures _ _ (bytes_read _ c.read.ensures) in record { value = all.0; listing_bytes = all.1 }
+returns c = let all = c.plan_of.ensures _ _ (bytes_read _ c.read_sheet.ensures) in record { value = all.0; listing_bytes = all.1 }

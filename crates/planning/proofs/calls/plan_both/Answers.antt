@@ -3,10 +3,7 @@ use Rattle.sheet.proofs.OwnCheckLaws.{bytes_read}
 use Rattle.planning.specs.Planning.{plan_refusal}
 use Rattle.planning.proofs.calls.plan_both.Goals as goal
 
-pub plan_both_of-requires : goal.plan_both_of-requires
-plan_both_of-requires c = record { own = _; sheet = _; read = bytes_read _ c.read.ensures }
-
 pub returns : goal.returns
 unfolding plan_refusal
-returns c = let l = c.plan_both_of.ensures _ _ (bytes_read _ c.read.ensures) in
+returns c = let l = c.plan_both_of.ensures _ _ (bytes_read _ c.read_sheet.ensures) in
     record { value = l.0.0; listing_bytes = l.0.1; placing_bytes = l.1 }

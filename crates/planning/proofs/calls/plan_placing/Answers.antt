@@ -3,9 +3,6 @@ use Rattle.sheet.proofs.OwnCheckLaws.{bytes_read}
 use Rattle.planning.specs.Planning.{plan_refusal}
 use Rattle.planning.proofs.calls.plan_placing.Goals as goal
 
-pub plan_placing_of-requires : goal.plan_placing_of-requires
-plan_placing_of-requires c = record { own = _; sheet = _; read = bytes_read _ c.read.ensures }
-
 pub returns : goal.returns
 unfolding plan_refusal
-returns c = let all = c.plan_placing_of.ensures _ _ (bytes_read _ c.read.ensures) in record { value = all.0; placing_bytes = all.1 }
+returns c = let all = c.plan_placing_of.ensures _ _ (bytes_read _ c.read_sheet.ensures) in record { value = all.0; placing_bytes = all.1 }

@@ -1,17 +1,12 @@
 -- `records::plans::kiwimound_plan_rations` meets its contract: it is that of the call, for what the records are read as.
 -- Assumes nothing.
-use Rattle.std.proofs.Common.{sym, subst, ◌∙◌}
-use Rattle.sheet.specs.OwnChecks.{SomeReading, ReadFrom}
+use Rattle.std.proofs.Common.{sym, subst}
+use Rattle.sheet.specs.OwnChecks.{ReadFrom}
 use Rattle.records.specs.Records.{record_sheet, record_faults}
-use Rattle.records.specs.ReadSteps.{records_read, some_records}
+use Rattle.records.specs.ReadSteps.{records_read}
 use Rattle.records.proofs.plans.kiwimound_plan_rations.Goals as goal
-
-pub plan_of-requires : goal.plan_of-requires
-plan_of-requires c =
-    let s = record_sheet c.args.slots c.args.blowers c.args.wake c.args.rations.now in
-    subst SomeReading (sym (c.from-reading.ensures ∙ c.read_rations.ensures)) (some_records s)
 
 pub returns : goal.returns
 returns c =
     let s = record_sheet c.args.slots c.args.blowers c.args.wake c.args.rations.now in
-    c.plan_of.ensures _ _ (subst (ReadFrom (record_faults s) s) (sym (c.from-reading.ensures ∙ c.read_rations.ensures)) (records_read s))
+    c.plan_of.ensures _ _ (subst (ReadFrom (record_faults s) s) (sym c.read_rations-sheet.ensures) (records_read s))
