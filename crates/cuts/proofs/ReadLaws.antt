@@ -5,6 +5,10 @@ use Rattle.checks.specs.declared.Refusal.{Refusal}
 use Rattle.checks.specs.Sheet.{Sheet}
 use Rattle.checks.specs.Checks.{first_refusal}
 use Rattle.sheet.specs.declared.Reading.{Reading}
+use Rattle.sheet.specs.declared.feed_sheet.FeedSheet.{FeedSheet}
+use Rattle.sheet.specs.Accepted.{IsAccepted}
+use Rattle.sheet.specs.FeedSheets.{sheet_in, sheet_reading}
+use Rattle.sheet.proofs.FeedSheetLaws.{feed_read, feed_values, is_accepted}
 use Rattle.sheet.specs.Calls.{accepted}
 use Rattle.sheet.proofs.CallLaws.{reading_from_accepted}
 use Rattle.sheet.specs.OwnChecks.{OwnChecks, ReadFrom, SomeReading, ReadSheet}
@@ -35,3 +39,9 @@ cut_some sheet share l cut =
       sheet = cut_sheet share sheet.some.sheet;
       read = cut_read h sheet.zero share l (cut sheet.some.own sheet.some.sheet h);
     }
+
+-- and the numbers of a cut sheet are those of an accepted one
+pub cut_accepted : (f : FeedSheet) (share : ℕ) → share ≤ max_share → {x : Reading} → CutFrom share (sheet_reading f) x
+    → IsAccepted x.slots x.blowers x.wake x.rations x.numbers
+cut_accepted f share l cut =
+    is_accepted (cut_sheet share (sheet_in f)) (cut_in_range share l (sheet_in f) (feed_values f)) (cut [] (sheet_in f) (feed_read f))

@@ -39,9 +39,9 @@ use Rattle.cuts.proofs.ReadLaws.{cut_read}
 
 -- ---- one question
 
-module _ {r : Reading} {H N F R : List ℕ} (may : CanAskShares r H N F R) (share : ℕ) (l : share ≤ max_share) {x : Reading} (cut : CutFrom share r x) where
+module _ {r : Reading} (sheet : ReadSheet r) {H N F R : List ℕ} (may : CanAskShares r H N F R) (share : ℕ) (l : share ≤ max_share) {x : Reading} (cut : CutFrom share r x) where
   z : r.number ≡ 0
-  z = may.sheet.zero
+  z = sheet.zero
 
   module _ {own : List Refusal} {s : Sheet} (h : ReadFrom own s r) where
     a : SheetRead s r
@@ -87,8 +87,8 @@ module _ {r : Reading} {H N F R : List ℕ} (may : CanAskShares r H N F R) (shar
           ∙ ap (λ ds. feasible x.slots ds (replicate x.slots 0) (replicate x.slots x.blowers)) b.demands
           ∙ ap₂ (λ d m. feasible d (demands_of (cut_sheet share s)) (replicate d 0) (replicate d m)) b.slots b.blowers
 
-  h : ReadFrom may.sheet.some.own may.sheet.some.sheet r
-  h = may.sheet.some.read
+  h : ReadFrom sheet.some.own sheet.some.sheet r
+  h = sheet.some.read
 
   pub cut_rations : Rations x.slots x.rations x.numbers
   cut_rations = (b h).rations
@@ -107,7 +107,6 @@ module _ {r : Reading} {H N F R : List ℕ} (may : CanAskShares r H N F R) (shar
       pub ask_again : CanAskShares r H N' F' R'
       ask_again =
           record {
-            sheet = may.sheet;
             highs = may.highs;
             words = may.words;
             windows = may.windows;
@@ -115,10 +114,10 @@ module _ {r : Reading} {H N F R : List ℕ} (may : CanAskShares r H N F R) (shar
           }
 
 -- before the first question nothing is fed
-pub ask_first : {r : Reading} {H W : List ℕ} → ReadSheet r → H ≡ padded max_slots (replicate r.slots r.blowers)
+pub ask_first : {r : Reading} {H W : List ℕ} → H ≡ padded max_slots (replicate r.slots r.blowers)
     → WindowWords max_slots (demands_from max_slots r.rations r.numbers) W
     → CanAskShares r H (replicate max_rations 0) (replicate max_slots 0) W
-ask_first {W = W} sheet h w = record { sheet = sheet; highs = h; words = W; windows = w; holds = holds_none w.long }
+ask_first {W = W} h w = record { highs = h; words = W; windows = w; holds = holds_none w.long }
 
 -- ---- marked slots
 

@@ -7,7 +7,7 @@ use Rattle.checks.specs.Limits.{max_slots}
 use Rattle.checks.specs.Sheet.{Sheet}
 use Rattle.sheet.specs.declared.Reading.{Reading}
 use Rattle.sheet.specs.Calls.{accepted}
-use Rattle.sheet.specs.OwnChecks.{ReadFrom, ReadSheet}
+use Rattle.sheet.specs.OwnChecks.{ReadFrom}
 use Rattle.placing.specs.Rations.{demands_from}
 use Rattle.placing.specs.Words.{WindowWords}
 use Rattle.placing.specs.Represents.{Holds}
@@ -19,10 +19,9 @@ CutFrom share r x = (own : List Refusal) (s : Sheet) → ReadFrom own s r → x 
 
 -- Questions -------------------------------------------------------------------------
 
--- a sheet that was read, the bytes H of its highs, and words F and R that hold some placing of its windows, which no
+-- of a sheet that was read, the bytes H of its highs, and words F and R that hold some placing of its windows, which no
 -- share changes, with the volumes N
 pub record CanAskShares (r : Reading) (H N F R : List ℕ) : Type 0 where
-  pub sheet : ReadSheet r
   pub highs : H ≡ padded max_slots (replicate r.slots r.blowers)
   pub words : List ℕ
   pub windows : WindowWords max_slots (demands_from max_slots r.rations r.numbers) words

@@ -1,12 +1,12 @@
 // The sheet of a share.
 ghost use Rattle.std.specs.Prelude.{◌≡◌, ◌≤◌};
 ghost use Rattle.checks.specs.Limits.{max_slots};
-ghost use Rattle.sheet.specs.OwnChecks.{ReadSheet};
+ghost use Rattle.sheet.specs.FeedSheets.{sheet_reading};
 ghost use Rattle.cuts.specs.Cuts.{max_share, cut_volume};
 ghost use Rattle.cuts.specs.Clauses.{CutFrom};
 
 use line::layout::FIELDS;
-use sheet::Reading;
+use sheet::FeedSheet;
 
 // A volume cut to a share, rounded down.
 fn cut_volume(share: u32, volume: u32) -> u32
@@ -16,22 +16,17 @@ fn cut_volume(share: u32, volume: u32) -> u32
     volume * share / 100
 }
 
-// What would be read of the sheet cut to a share: each volume is cut, and all else is as it was read.
-pub fn cut_sheet(share: u32, sheet: Reading) -> Reading
-    requires { ReadSheet sheet × (share ≤ max_share) }
-    ensures { CutFrom share sheet result }
+// The sheet cut to a share: each volume is cut, and all else is as it was.
+pub fn cut_sheet(share: u32, sheet: &FeedSheet) -> FeedSheet
+    requires { share ≤ max_share }
+    ensures { CutFrom share (sheet_reading sheet.now) (sheet_reading result) }
 {
     let mut numbers = sheet.numbers;
-    let n = sheet.rations as usize;
-    let mut j = 0;
-    while j < n {
+    for j in 0..sheet.rations as usize {
         let at = FIELDS * j + 3;
         numbers[at] = cut_volume(share, numbers[at]);
-        j += 1;
     }
-    Reading {
-        number: 0,
-        line: 0,
+    FeedSheet {
         slots: sheet.slots,
         blowers: sheet.blowers,
         wake: sheet.wake,
