@@ -1,8 +1,5 @@
 // The call that plans the greatest share of a sheet's rations.
-ghost use Rattle.std.specs.Prelude.{◌≡◌, ◌||◌, ◌≤◌};
-ghost use Rattle.sheet.specs.FeedSheets.{sheet_reading};
-ghost use Rattle.cuts.specs.Cuts.{max_share};
-ghost use Rattle.cuts.specs.Clauses.{CutFrom};
+ghost use Rattle.std.specs.Prelude.{◌≡◌, ◌||◌};
 ghost use Rattle.checks.specs.Sheet.{sheet_of};
 ghost use Rattle.planning.specs.Problem.{listing_of, words_for};
 ghost use Rattle.planning.specs.Planning.{short_plan, short_placing, listing_after, placing_after};
@@ -11,39 +8,6 @@ ghost use Rattle.shares.specs.Shares.{share_problem, share_refusal, share_answer
 use crate::SharePlanned;
 use checks::{Fault, Refusal};
 use plan_lines::sizes::{PLACING_WORDS, PLAN_BYTES};
-use sheet::{FeedSheet, Reading};
-
-// An accepted sheet as a reading of it.
-fn as_read(sheet: &FeedSheet) -> Reading
-    ensures { result ≡ sheet_reading sheet.now }
-{
-    let numbers = sheet.numbers;
-    Reading {
-        number: 0,
-        line: 0,
-        slots: sheet.slots,
-        blowers: sheet.blowers,
-        wake: sheet.wake,
-        rations: sheet.rations,
-        numbers,
-    }
-}
-
-// The sheet cut to a share.
-fn cut_to(share: u32, sheet: &FeedSheet) -> FeedSheet
-    requires { share ≤ max_share }
-    ensures { CutFrom share (sheet_reading sheet.now) (sheet_reading result) }
-{
-    let cut = cuts::cut_sheet(share, as_read(sheet));
-    let numbers = cut.numbers;
-    FeedSheet {
-        slots: cut.slots,
-        blowers: cut.blowers,
-        wake: cut.wake,
-        rations: cut.rations,
-        numbers,
-    }
-}
 
 // Plans the sheet cut to its greatest share.
 fn plan_cut(b: &[u8], listing: &mut [u8], placing: &mut [u64]) -> Result<SharePlanned, Refusal>
@@ -54,8 +18,8 @@ fn plan_cut(b: &[u8], listing: &mut [u8], placing: &mut [u64]) -> Result<SharePl
     if listing.len() < PLAN_BYTES || placing.len() < PLACING_WORDS {
         return Err(Fault::Buffer.on(0));
     }
-    let share = cuts::greatest_share(as_read(&sheet));
-    let cut = cut_to(share, &sheet);
+    let share = cuts::greatest_share(&sheet);
+    let cut = cuts::cut_sheet(share, &sheet);
     let planned = planning::plan_both_of(Ok(cut), listing, placing);
     Ok(SharePlanned {
         number: planned.number,

@@ -3,7 +3,7 @@ use mathlib.Core.Path.{refl}
 use Rattle.std.proofs.lemmas.Result.{err_from_is_err_and}
 use Rattle.sheet.specs.Calls.{refused}
 use Rattle.sheet.proofs.OwnCheckLaws.{bytes_read}
-use Rattle.sheet.proofs.FeedSheetLaws.{feed_sheet_read, err_numbered}
+use Rattle.sheet.proofs.FeedSheetLaws.{err_numbered}
 use Rattle.planning.specs.Planning.{short_plan, short_placing}
 use Rattle.planning.proofs.CallAnswers.{room_plan, room_placing, either_short, neither}
 use Rattle.shares.proofs.ShareSteps.{share_refused_lem, share_short, share_within, share_done}
@@ -23,13 +23,10 @@ returns-then-listing-lt-PLAN_BYTES c =
     let k = bytes_read _ (rw c.in_ok-sheet.was at c.read_sheet.ensures) in
     rw c.on.ensures (share_short c.args.b.now listing placing k refl (either_short listing placing c.then-listing-lt-PLAN_BYTES.either))
 
-pub cut_to-cut-requires : goal.cut_to-cut-requires
-cut_to-cut-requires c =
+pub cut_sheet-cut-requires : goal.cut_sheet-cut-requires
+cut_sheet-cut-requires c =
     let k = bytes_read _ (rw c.in_ok-sheet.was at c.read_sheet.ensures) in
-    share_within c.args.b.now k (rw c.as_read.ensures at c.greatest_share-share.ensures)
-
-pub greatest_share-share-requires : goal.greatest_share-share-requires
-greatest_share-share-requires c = rw c.as_read.ensures (feed_sheet_read c.in_ok-sheet.sheet)
+    share_within c.args.b.now k c.greatest_share-share.ensures
 
 pub returns : goal.returns
 returns c =
@@ -37,4 +34,4 @@ returns c =
     let placing = c.args.placing.now in
     let k = bytes_read _ (rw c.in_ok-sheet.was at c.read_sheet.ensures) in
     let f = neither (short_plan listing) (short_placing placing) (room_plan listing c.if-listing-lt-PLAN_BYTES.false) (room_placing placing c.if-placing-lt-PLACING_WORDS.false) in
-    share_done c.args.b.now listing placing k refl f (rw c.as_read.ensures at c.greatest_share-share.ensures) c.cut_to-cut.ensures c.plan_both_of-planned.ensures
+    share_done c.args.b.now listing placing k refl f c.greatest_share-share.ensures c.cut_sheet-cut.ensures c.plan_both_of-planned.ensures
