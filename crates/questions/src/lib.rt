@@ -13,7 +13,7 @@ pub use shortfalls::shortfall;
 
 // for the layers above: they take what was read, and `shortfall_on` an accepted sheet
 pub use question::bounds_of;
-pub use shortfalls::{shortfall_of, shortfall_of_reading, shortfall_on};
+pub use shortfalls::{shortfall_of, shortfall_on};
 
 // What `shortfall` answers: forced minus capacity, below zero where capacity is spare; 0 on a refusal. A number with the
 // value beside it, since C reads it (`kiwimound_shortfall`).

@@ -2,7 +2,6 @@
 ghost use Rattle.std.specs.Prelude.{◌≡◌, ◌-◌, ◌*◌, ◌≤◌};
 ghost use Rattle.std.proofs.Math.IntN.{sub_ℕ};
 ghost use Rattle.checks.specs.Limits.{max_slots, max_blowers, max_rations};
-ghost use Rattle.sheet.specs.OwnChecks.{SomeReading};
 ghost use Rattle.sheet.specs.FeedSheets.{sheet_reading, as_reading};
 ghost use Rattle.questions.specs.Calls.{shortfall_of};
 ghost use Rattle.marks.specs.Counts.{unmarked_in};
@@ -11,7 +10,7 @@ ghost use Rattle.marks.specs.Parts.{CanCount};
 
 use crate::ShortfallAnswer;
 use checks::{Fault, Refusal};
-use sheet::{FeedSheet, Reading};
+use sheet::FeedSheet;
 
 // What one ration is forced to take: the larger of 0 and its volume less the slots of its window that are not marked.
 // `before` has the marks counted from slot 1 on.
@@ -98,35 +97,4 @@ pub fn shortfall(b: &[u8], marks: &[u8]) -> ShortfallAnswer
     ensures { result ≡ shortfall_of b.now marks.now }
 {
     shortfall_of(sheet::read_sheet(b), marks)
-}
-
-// The same of a reading, until crate cuts hands over accepted sheets.
-pub fn shortfall_of_reading(sheet: Reading, marks: &[u8]) -> ShortfallAnswer
-    requires { SomeReading sheet }
-    ensures { ReadShortfall sheet marks.now result }
-{
-    if sheet.number != 0 {
-        return ShortfallAnswer {
-            number: sheet.number,
-            line: sheet.line,
-            shortfall: 0,
-        };
-    }
-    let slots = sheet.slots as usize;
-    if marks::is_faulty(slots, marks) {
-        return ShortfallAnswer {
-            number: 11,
-            line: 0,
-            shortfall: 0,
-        };
-    }
-    let before = marks::counts_before(marks);
-    let numbers = sheet.numbers;
-    let f = forced(&before, sheet.rations as usize, &numbers);
-    let capacity = before[slots] * sheet.blowers;
-    ShortfallAnswer {
-        number: 0,
-        line: 0,
-        shortfall: difference(f, capacity),
-    }
 }
