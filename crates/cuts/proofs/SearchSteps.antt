@@ -32,7 +32,7 @@ use Rattle.cuts.specs.Cuts.{max_share, cut_sheet, feasible_sheet}
 use Rattle.questions.specs.declared.ShortfallAnswer.{ShortfallAnswer}
 use Rattle.questions.specs.ShortfallParts.{ReadShortfall}
 use Rattle.questions.specs.CallLaws.{deficient_infeasible}
-use Rattle.cuts.specs.Clauses.{CutFrom, CanAskShares, ShareAnswered, ReadPossible, ReadNone, Between, ReadBetween, CanHalve, ShareFound}
+use Rattle.cuts.specs.Clauses.{CutFrom, CanAskShares, ShareAnswered, ReadPossible, ReadDeficient, ReadNone, Between, ReadBetween, CanHalve, ShareFound}
 use Rattle.cuts.proofs.ShareLaws.{none_from, between_up, between_down, between_end}
 use Rattle.cuts.proofs.CutDemandLaws.{windows_cut, length_cut}
 use Rattle.cuts.proofs.ReadLaws.{cut_read}
@@ -120,6 +120,12 @@ pub ask_first : {r : Reading} {H W : List ℕ} → H ≡ padded max_slots (repli
 ask_first {W = W} h w = record { highs = h; words = W; windows = w; holds = holds_none w.long }
 
 -- ---- marked slots
+
+-- what the shortfall of the cut sheet says
+pub deficient_is : {r : Reading} → ReadSheet r → (share : ℕ) → share ≤ max_share → {x : Reading} → CutFrom share r x → (marks : List ℕ) {a : ShortfallAnswer}
+    → ReadShortfall x marks a → ReadDeficient share r marks (lt_z (pos 0) a.shortfall)
+deficient_is {r} sheet share l {x} cut marks q own s h =
+    ap (λ a. lt_z (pos 0) a.shortfall) (q [] (cut_sheet share s) (cut_read h sheet.zero share l (cut own s h)))
 
 -- where the marked slots of the cut sheet have a shortfall above zero, it has no sound placing, nor has any greater
 -- share

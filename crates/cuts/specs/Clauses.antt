@@ -1,10 +1,13 @@
 -- What the functions within the crate and those for the layers above require and ensure, of whatever sheet was read.
 -- Definitions only. Assumes nothing.
-use Rattle.std.specs.Prelude.{◌≡◌, Bool, true, false, List, ℕ, suc, ◌+◌, ◌*◌, ◌≤◌, ◌<◌, length, replicate}
+use Rattle.std.specs.Prelude.{◌≡◌, Bool, true, false, List, [], ℕ, suc, ◌+◌, ◌*◌, ◌≤◌, ◌<◌, length, replicate}
 use Rattle.common.specs.Buffers.{padded}
 use Rattle.checks.specs.declared.Refusal.{Refusal}
 use Rattle.checks.specs.Limits.{max_slots}
 use Rattle.checks.specs.Sheet.{Sheet}
+use Rattle.std.specs.Int.Signed.{lt_z}
+use Rattle.std.specs.Prelude.{pos}
+use Rattle.questions.specs.Calls.{shortfall_for}
 use Rattle.sheet.specs.declared.Reading.{Reading}
 use Rattle.sheet.specs.Calls.{accepted}
 use Rattle.sheet.specs.OwnChecks.{ReadFrom}
@@ -41,6 +44,11 @@ ReadPossible r share = (own : List Refusal) (s : Sheet) → ReadFrom own s r →
 -- no share from this one on has a sound placing
 abbrev pub NoneFrom : Sheet → ℕ → Type 0
 NoneFrom s from = (share : ℕ) → from ≤ share → share ≤ max_share → feasible_sheet (cut_sheet share s) ≡ false
+
+-- whether the marked slots show that this share has no sound placing: the cut sheet has a shortfall above zero in them
+abbrev pub ReadDeficient : (share : ℕ) (r : Reading) (marks : List ℕ) (shown : Bool) → Type 0
+ReadDeficient share r marks shown =
+    (own : List Refusal) (s : Sheet) → ReadFrom own s r → shown ≡ lt_z (pos 0) (shortfall_for [] (cut_sheet share s) marks).shortfall
 
 abbrev pub ReadNone : Reading → ℕ → Type 0
 ReadNone r from = (own : List Refusal) (s : Sheet) → ReadFrom own s r → NoneFrom s from

@@ -4,11 +4,10 @@
 // first, are enough if the answer is no. Then the search leaves marks on the slots that show why, and what smaller
 // shares force into these slots tells how many of those have none either, without another question. A question goes on
 // from the placing that the one before it left, so that only what is more or less of each ration is placed anew.
-ghost use Rattle.std.specs.Prelude.{◌≡◌, true, ◌+◌, ◌-◌, ◌≤◌, ◌<◌};
-ghost use Rattle.std.specs.Int.Signed.{lt_z};
+ghost use Rattle.std.specs.Prelude.{◌≡◌, ◌==◌, true, ◌+◌, ◌-◌, ◌/◌, ◌≤◌, ◌<◌};
 ghost use Rattle.sheet.specs.FeedSheets.{sheet_reading};
 ghost use Rattle.cuts.specs.Cuts.{max_share};
-ghost use Rattle.cuts.specs.Clauses.{CanAskShares, ShareAnswered, ReadPossible, ReadNone, ReadBetween, CanHalve, ShareFound};
+ghost use Rattle.cuts.specs.Clauses.{CanAskShares, ShareAnswered, ReadPossible, ReadDeficient, ReadNone, ReadBetween, CanHalve, ShareFound};
 
 use crate::cutting;
 use densities::SCALE;
@@ -43,10 +42,11 @@ fn can_share(share: u32, sheet: &FeedSheet, placed: &mut [u8; 64], words: &mut W
 }
 
 // Whether the marked slots show that the sheet cut to a share has no sound placing: more is forced into them than the
-// blowers can make. What is promised is that a yes is right.
+// blowers can make.
 fn is_deficient(share: u32, sheet: &FeedSheet, marks: &[u8]) -> bool
     requires { share ≤ max_share }
-    ensures { result ≡ true → ReadNone (sheet_reading sheet.now) share }
+    ensures shown { ReadDeficient share (sheet_reading sheet.now) marks.now result }
+    ensures none { result ≡ true → ReadNone (sheet_reading sheet.now) share }
 {
     let cut = cutting::cut_sheet(share, sheet);
     match questions::shortfall_on(&cut, marks) {
@@ -58,7 +58,8 @@ fn is_deficient(share: u32, sheet: &FeedSheet, marks: &[u8]) -> bool
 // The half of the shares between two ends in which the least lies that the marked slots show to have no placing.
 fn halve(ends: Ends, sheet: &FeedSheet, marks: &[u8]) -> Ends
     requires { ReadNone (sheet_reading sheet.now) ends.high × (ends.low + 1 < ends.high) × (ends.high ≤ max_share + 1) }
-    ensures { ReadNone (sheet_reading sheet.now) result.high × (ends.low ≤ result.low) × (result.low < result.high)
+    ensures half { ReadDeficient ((ends.low + ends.high) / 2) (sheet_reading sheet.now) marks.now (result.high == (ends.low + ends.high) / 2) }
+    ensures none { ReadNone (sheet_reading sheet.now) result.high × (ends.low ≤ result.low) × (result.low < result.high)
         × (result.high ≤ ends.high) × (result.high - result.low < ends.high - ends.low) }
 {
     let mid = (ends.low + ends.high) / 2;

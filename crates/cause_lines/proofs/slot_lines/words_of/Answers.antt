@@ -1,1 +1,0 @@
--- `cause_lines::slot_lines::words_of` meets its contract. Assumes nothing.

@@ -1,2 +1,0 @@
--- `cuts::search::least_deficient` meets its contract. From the upper of the two ends on no share has a placing. Assumes
--- nothing.

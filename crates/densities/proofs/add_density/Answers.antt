@@ -1,2 +1,0 @@
--- `densities::add_density` meets its contract: after t slots those of the window before slot t have so many parts more.
--- Assumes nothing.
