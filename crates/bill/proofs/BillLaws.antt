@@ -7,7 +7,7 @@ use Rattle.checks.specs.Limits.{max_wake}
 use Rattle.method.specs.Intervals.{Interval, intervals, size}
 use Rattle.energy.specs.Energy.{state, listed, listed_for, on_in, on_slots, start_at, starts_from, starts_of, starts, on, energy}
 use Rattle.energy.specs.EnergyLaws.{energy_most}
-use Rattle.energy.specs.declared.Stretch.{Stretch}
+use Rattle.energy.specs.Listed.{ListedStretch}
 use Rattle.bill.specs.Bill.{rates, hour_of, rate_of, on_rate, on_charge, start_charge, charge_from, blower_charge, charge}
 
 -- Rates ------------------------------------------------------------------------
@@ -51,11 +51,11 @@ on_rates_le x t n = go (eqb x 0) t n
 starts_le : (n q r : ℕ) → r ≤ 36 → n * (q * r) ≤ 36 * (q * n)
 starts_le n q r h = omega (arith, mul_left_comm n q r, mul_assoc q n r, mul-le-mul_left (q * n) h)
 
-start_charge_le : (q before : ℕ) (s : Stretch) → start_charge q before s ≤ 36 * (q * start_at before s.state)
+start_charge_le : (q before : ℕ) (s : ListedStretch) → start_charge q before s ≤ 36 * (q * start_at before s.state)
 unfolding start_charge
 start_charge_le q before s = starts_le (start_at before s.state) q _ (rate_of_le _)
 
-charge_from_le : (d q k before : ℕ) (vs : List Interval)
+pub charge_from_le : (d q k before : ℕ) (vs : List Interval)
     → charge_from q before (map (listed d q k) vs) ≤ 36 * (on_slots d q vs + q * starts_from before (map (state d q) vs))
 unfolding charge_from listed on_charge on_slots starts_from size
 charge_from_le d q k before [] = omega arith

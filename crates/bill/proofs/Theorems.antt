@@ -8,11 +8,10 @@ use Rattle.checks.specs.Limits.{max_wake}
 use Rattle.method.specs.Intervals.{Interval, intervals, busy_in}
 use Rattle.method.proofs.IntervalLaws.{Fill, intervals_fill}
 use Rattle.energy.specs.Energy.{listed, listed_for}
-use Rattle.energy.specs.declared.Stretch.{Stretch}
-use Rattle.bill.specs.declared.Tally.{Tally}
+use Rattle.energy.specs.Listed.{ListedStretch}
 use Rattle.bill.specs.Bill.{extent, on_charge, start_charge, charge_from, blower_charge, charge, cents_of, amount_of}
 use Rattle.bill.proofs.BillLaws.{charge_most_lem}
-use Rattle.bill.specs.Tally.{no_tally, with_slots, states_of, tally_of}
+use Rattle.bill.specs.Tally.{Tally, no_tally, with_slots, states_of, tally_of}
 use Rattle.bill.proofs.TallyLaws.{with_slots_stretch, with_slots_append}
 
 -- stretches that fill the slots after `from`, one after another
@@ -29,10 +28,10 @@ tally_charge f d q k to from (v ∷ vs) y h =
     (record { charge = y.charge + (on_charge s + start_charge q y.state s); state = s.state }) h.1
     ∙ omega arith
   where
-    s : Stretch
+    s : ListedStretch
     s = listed d q k v
 
-    ss : List Stretch
+    ss : List ListedStretch
     ss = map (listed d q k) vs
 
     next : suc from + length (replicate (extent s) s.state) ≡ suc v.last

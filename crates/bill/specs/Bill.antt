@@ -3,7 +3,7 @@
 use Rattle.std.specs.Prelude.{cond, List, [], ◌∷◌, ◌++◌, map, ℕ, suc, ◌+◌, ◌-◌, ◌*◌, ◌/◌, ◌%◌, eqb, get_or, replicate}
 use Rattle.common.specs.Lists.{range, sum}
 use Rattle.energy.specs.Energy.{listed_for, start_at}
-use Rattle.energy.specs.declared.Stretch.{Stretch}
+use Rattle.energy.specs.Listed.{ListedStretch}
 use Rattle.bill.specs.declared.Amount.{Amount}
 
 -- Rates ------------------------------------------------------------------------
@@ -22,27 +22,27 @@ rate_of t = get_or rates (hour_of t) 0
 -- One blower -------------------------------------------------------------------
 
 -- how many slots a stretch has
-abbrev pub extent : Stretch → ℕ
+abbrev pub extent : ListedStretch → ℕ
 extent s = suc s.last - s.first
 
 -- an on slot costs its hour's rate
 unfoldable pub on_rate : (state slot : ℕ) → ℕ
 on_rate x t = cond (eqb x 0) 0 (rate_of t)
 
-unfoldable pub on_charge : Stretch → ℕ
+unfoldable pub on_charge : ListedStretch → ℕ
 on_charge s = sum (map (on_rate s.state) (range s.first (extent s)))
 
 -- a start costs q times the rate of its first on slot, which is its stretch's first
-unfoldable pub start_charge : (wake before : ℕ) → Stretch → ℕ
+unfoldable pub start_charge : (wake before : ℕ) → ListedStretch → ℕ
 start_charge q before s = start_at before s.state * (q * rate_of s.first)
 
 -- the charge of stretches one after another, after the state before them
-unfoldable pub charge_from : (wake before : ℕ) → List Stretch → ℕ
+unfoldable pub charge_from : (wake before : ℕ) → List ListedStretch → ℕ
 charge_from q before [] = 0
 charge_from q before (s ∷ ss) = on_charge s + start_charge q before s + charge_from q s.state ss
 
 -- the charge of a blower with these stretches: blowers are off before slot 1
-unfoldable pub blower_charge : (wake : ℕ) → List Stretch → ℕ
+unfoldable pub blower_charge : (wake : ℕ) → List ListedStretch → ℕ
 blower_charge q ss = charge_from q 0 ss
 
 -- All blowers ------------------------------------------------------------------

@@ -1,8 +1,8 @@
 // Bill: the charge of a day in tenths of a cent, and its cents.
 //
-// An on slot costs its hour's rate, and a start costs q times the rate of its first on slot. A blower's tally, lent for each slot in turn, takes one slot
-// after another, from stretch to stretch. The blowers' tallies add up to the day's charge as it is defined from the stretches of the listing
-// (specs/Theorems.antt), and only that sum is rounded. For the layers above: `day_charge` asks for counts of a day.
+// An on slot costs its hour's rate, and a start costs q times the rate of its first on slot. A blower's tally takes one
+// slot after another, from stretch to stretch. The blowers' tallies add up to the day's charge as it is defined from
+// the stretches of the listing (proofs/Theorems.antt), and only that sum is rounded.
 #![tactic(auto)]
 
 mod rates;
@@ -10,13 +10,6 @@ mod tallies;
 
 pub use rates::amount_of;
 pub use tallies::day_charge;
-
-// A blower's charge, in tenths of a cent, and its state in the last slot taken; it is off (0) before slot 1.
-#[derive(Clone, Copy)]
-pub struct Tally {
-    pub charge: u32,
-    pub state: u32,
-}
 
 // Whole hundreds of cents, and the remaining cents.
 #[derive(Clone, Copy)]

@@ -1,92 +1,85 @@
 // A blower's tally, slot after slot, and the charge of a day.
-ghost use Rattle.std.specs.Prelude.{◌≡◌, ◌+◌, ◌-◌, ◌≤◌, take, replicate};
+ghost use Rattle.std.specs.Prelude.{◌≡◌, ◌≤◌};
 ghost use Rattle.checks.specs.Limits.{max_wake};
 ghost use Rattle.energy.specs.Energy.{listed_for};
+ghost use Rattle.energy.specs.Listed.{number_of, listing_of};
 ghost use Rattle.energy.specs.Usage.{CanCharge};
 ghost use Rattle.bill.specs.Bill.{blower_charge, charge};
-ghost use Rattle.bill.specs.Tally.{slot_charge, with_slot, with_slots, CanAddSlot, CanAddSlots, CanTally};
+ghost use Rattle.bill.specs.Tally.{slot_charge, with_slot, with_stretch, CanAddSlot, CanAddStretch};
+ghost use Rattle.bill.specs.Numbers.{numbers_of};
 
-use crate::{Tally, rates};
+use crate::rates;
+use energy::{CountedDay, State, Stretch};
+
+// A blower's charge, in tenths of a cent, and its state in the last slot taken; it is off before slot 1.
+#[derive(Clone, Copy)]
+pub struct Tally {
+    pub charge: u32,
+    pub state: State,
+}
 
 // What a slot costs in its state, after the state before it.
-fn slot_charge(wake: u32, slot: usize, before: u32, state: u32) -> u32
+#[tactic(auto, unfolding(crate::specs::Tally::slot_charge, crate::specs::Bill::on_rate, energy::specs::Energy::start_at))]
+fn slot_charge(wake: u32, slot: usize, before: State, state: State) -> u32
     requires { (1 ≤ slot) × (slot ≤ 96) × (wake ≤ max_wake) }
-    ensures { result ≡ slot_charge wake slot before state }
+    ensures { result ≡ slot_charge wake slot (number_of before) (number_of state) }
 {
-    if state == 0 {
-        return 0;
-    }
-    let rate = rates::rate_of(slot);
-    if before != 0 {
-        return rate;
-    }
-    rate + wake * rate
-}
-
-// The tally with one slot more.
-fn with_slot(tally: Tally, wake: u32, slot: usize, state: u32) -> Tally
-    requires { CanAddSlot wake slot tally }
-    ensures { result ≡ with_slot wake slot state tally }
-{
-    let before = tally.state;
-    let more = slot_charge(wake, slot, before, state);
-    Tally {
-        charge: tally.charge + more,
-        state,
+    match state {
+        State::Off => 0,
+        State::Idle | State::Busy => {
+            let rate = rates::rate_of(slot);
+            match before {
+                State::Off => rate + wake * rate,
+                State::Idle | State::Busy => rate,
+            }
+        }
     }
 }
 
-// Takes one slot more into a lent tally.
-fn add_slot(tally: &mut Tally, wake: u32, slot: usize, state: u32)
-    requires { CanAddSlot wake slot tally.old }
-    ensures { tally.new ≡ with_slot wake slot state tally.old }
-{
-    *tally = with_slot(*tally, wake, slot, state);
-}
-
-// The tally with a stretch more, the slots after `from` up to `end` in one state: it is lent for each slot in turn. Its callers pass it by value, so that
-// they need no proof by hand.
-fn with_stretch(tally: Tally, wake: u32, from: usize, end: usize, state: u32) -> Tally
-    requires { CanAddSlots wake from end tally }
-    ensures { result ≡ with_slots wake (from + 1) (replicate (end - from) state) tally }
-{
-    let mut running = tally;
-    let mut at = from;
-    while at < end {
-        at += 1;
-        add_slot(&mut running, wake, at, state);
+impl Tally {
+    // Takes one slot more.
+    fn add_slot(&mut self, wake: u32, slot: usize, state: State)
+        requires { CanAddSlot wake slot (number_of state) (numbers_of self.old) }
+        ensures { numbers_of self.new ≡ with_slot wake slot (number_of state) (numbers_of self.old) }
+    {
+        self.charge += slot_charge(wake, slot, self.state, state);
+        self.state = state;
     }
-    running
+
+    // Takes a stretch more, slot after slot.
+    fn add_stretch(&mut self, wake: u32, stretch: &Stretch)
+        requires { CanAddStretch wake (listing_of stretch.now) (numbers_of self.old) }
+        ensures { numbers_of self.new ≡ with_stretch wake (listing_of stretch.now) (numbers_of self.old) }
+    {
+        for slot in stretch.first..=stretch.last {
+            self.add_slot(wake, slot, stretch.state);
+        }
+    }
 }
 
 // A blower's charge: one pass over its stretches, and in each over its slots.
-fn blower_charge(counts: &[u8; 96], slots: usize, blower: u32, wake: u32) -> u32
-    requires { CanTally counts.now slots wake }
-    ensures { result ≡ blower_charge wake (listed_for wake (take slots counts.now) blower) }
+fn blower_charge(day: &CountedDay<'_>, blower: u32) -> u32
+    requires { day.now.wake ≤ max_wake }
+    ensures { result ≡ blower_charge day.now.wake (listed_for day.now.wake day.now.counts.now blower) }
 {
     let mut tally = Tally {
         charge: 0,
-        state: 0,
+        state: State::Off,
     };
-    let mut from = 0;
-    while from < slots {
-        let stretch = energy::stretch_at(counts, slots, blower, wake, from);
-        tally = with_stretch(tally, wake, from, stretch.last, stretch.state);
-        from = stretch.last;
+    for stretch in day.stretches(blower) {
+        tally.add_stretch(day.wake, &stretch);
     }
     tally.charge
 }
 
 // The day's charge in tenths of a cent: the tallies of all blowers, from 1 on. It costs two passes over the slots for each blower.
-pub fn day_charge(counts: &[u8; 96], slots: usize, blowers: u32, wake: u32) -> u32
-    requires { CanCharge counts.now slots blowers wake }
-    ensures { result ≡ charge blowers wake (take slots counts.now) }
+pub fn day_charge(day: &CountedDay<'_>, blowers: u32) -> u32
+    requires { CanCharge blowers day.now.wake }
+    ensures { result ≡ charge blowers day.now.wake day.now.counts.now }
 {
     let mut sum = 0;
-    let mut done = 0;
-    while done < blowers {
-        done += 1;
-        sum += blower_charge(counts, slots, done, wake);
+    for blower in 1..=blowers {
+        sum += blower_charge(day, blower);
     }
     sum
 }

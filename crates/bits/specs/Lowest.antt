@@ -1,5 +1,5 @@
 -- The lowest bit of a word. Assumes nothing.
-use Rattle.std.specs.Prelude.{◌≡◌, ℕ, ◌-◌, ◌^◌, ◌<◌}
+use Rattle.std.specs.Prelude.{◌≡◌, refl, ◌≢◌, ℕ, ◌-◌, ◌^◌, ◌<◌}
 use Rattle.std.proofs.Common.{arith, pow_pos}
 use Rattle.std.specs.Int.Count.{count_trailing_zeros}
 use Rattle.common.specs.Bits.{bit, bit_le}
@@ -13,3 +13,7 @@ pub record Lowest (w j : ℕ) : Type 0 where
 -- without it the word is less
 pub lowest_less : {w j w' : ℕ} → Lowest w j → w' ≡ w - 2 ^ j → w' < w
 lowest_less {w} {j} l r = omega (arith, bit_le w j l.one, pow_pos j)
+
+-- a word with a lowest bit is not 0
+pub lowest_some : {w j : ℕ} → Lowest w j → w ≢ 0
+lowest_some l = omega (arith, lowest_less l refl)

@@ -1,10 +1,14 @@
-// A word's bits: the lowest, one more, one less, one moved to another word, whether it has one. What a bit is stands in
-// common/specs/Bits.antt.
+// A word's bits: the lowest, one more, one less, one moved to another word, whether it has one, and all set ones from
+// the lowest on. What a bit is stands in common/specs/Bits.antt.
 #![tactic(auto)]
 
 ghost use Rattle.std.specs.Prelude.{◌≡◌, ◌≢◌, ◌+◌, ◌-◌, ◌^◌, ◌<◌, eqb};
 ghost use Rattle.common.specs.Bits.{bit};
 ghost use Rattle.bits.specs.Lowest.{Lowest};
+
+mod iterating;
+
+pub use iterating::{SetBits, set_bits};
 
 // The index of the lowest bit of w.
 pub fn lowest(w: u64) -> u32

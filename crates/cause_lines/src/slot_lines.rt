@@ -63,11 +63,8 @@ pub fn put_slots(out: &mut [u8], at: usize, from: u32, word: u64) -> usize
     ensures { Put (bit_lines from word) at out.old out.new result }
 {
     let mut n = 0;
-    let mut rest = word;
-    while rest != 0 {
-        let j = bits::lowest(rest);
+    for j in bits::set_bits(word) {
         line::put_line(out, at + LINE * n, from + j + 1, 0, 0, 0);
-        rest = bits::drop_bit(rest, j);
         n += 1;
     }
     n

@@ -2,7 +2,7 @@
 use Rattle.std.specs.Prelude.{Bool, ◌&&◌, ◌||◌, cond, List, [], ◌∷◌, map, ℕ, ◌+◌, ◌*◌, leb, eqb, length}
 use Rattle.common.specs.Lists.{range, sum}
 use Rattle.method.specs.Intervals.{Interval, intervals, size}
-use Rattle.energy.specs.declared.Stretch.{Stretch}
+use Rattle.energy.specs.Listed.{ListedStretch}
 
 -- a stretch that touches slot 1 or the last slot
 unfoldable pub at_end : (slots : ℕ) → Interval → Bool
@@ -14,11 +14,11 @@ unfoldable pub state : (slots wake : ℕ) → Interval → ℕ
 state d q v = cond v.busy 2 (cond (at_end d v || leb q (size v)) 0 1)
 
 -- what its line of the listing gives of a stretch of blower k
-unfoldable pub listed : (slots wake k : ℕ) → Interval → Stretch
+unfoldable pub listed : (slots wake k : ℕ) → Interval → ListedStretch
 listed d q k v = record { blower = k; first = v.first; last = v.last; state = state d q v }
 
 -- the stretches that are listed for blower k
-unfoldable pub listed_for : (wake : ℕ) → (counts : List ℕ) → (k : ℕ) → List Stretch
+unfoldable pub listed_for : (wake : ℕ) → (counts : List ℕ) → (k : ℕ) → List ListedStretch
 listed_for q counts k = map (listed (length counts) q k) (intervals counts k)
 
 -- One blower -------------------------------------------------------------------

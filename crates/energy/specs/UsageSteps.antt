@@ -1,27 +1,18 @@
 -- How on slots and starts add up, from stretch to stretch and from blower to blower. Assumes nothing.
-use Rattle.std.specs.Prelude.{◌≡◌, Bool, ◌||◌, List, map, eqb, take}
-use Rattle.std.proofs.Math.Path.{refl, ap}
-use Rattle.std.proofs.Common.{sym, ◌∙◌, mul-le-mul, add-one}
-use Rattle.std.proofs.Math.Bool.{true, false}
-use Prim.Native.Nat.{ℕ, suc, ◌+◌, ◌-◌, ◌*◌, ◌≤◌, ◌<◌}
-use native.Mathlib.Omega.{arith}
-use Rattle.std.proofs.Math.ListN.{length, length-take}
-use Rattle.std.proofs.Math.Seq.{length-take-le}
+use Rattle.std.specs.Prelude.{◌≡◌, refl, Bool, true, false, ◌||◌, eqb, List, [], ◌∷◌, map, ℕ, suc, ◌+◌, ◌-◌, ◌*◌, ◌≤◌, ◌<◌, length}
+use Rattle.std.proofs.Common.{sym, ap, ◌∙◌, mul-le-mul, arith}
 use borrow.Author.Tests.{eq-eqb, ne_eqb, le-leb, lt-leb}
 use Rattle.common.specs.Lists.{range, sum}
 use Rattle.checks.specs.Limits.{max_wake}
-use Rattle.method.specs.Intervals.{Interval, intervals, size, busy_in}
-use Rattle.method.specs.FrontRunLaws.{stretch, stretches_from, EndsAt}
-use Rattle.method.proofs.FrontRunLaws.{stretches_from_begin, stretches_from_end}
-use Rattle.energy.specs.Energy.{at_end, state, listed, on_in, on_slots, start_at, starts_from, starts_of, starts, on, energy}
-use Rattle.energy.specs.StretchLaws.{Found}
-use Rattle.energy.specs.EnergyLaws.{on_in_le, start_at_le, on_slots_le, starts_of_le}
-use Rattle.energy.specs.Usage.{blower_use, day_use, Day, CanCharge}
-use Rattle.energy.specs.declared.Stretch.{Stretch}
+use Rattle.method.specs.Intervals.{Interval, intervals, size}
+use Rattle.method.specs.FrontRunLaws.{stretch}
+use Rattle.energy.specs.Listed.{ListedStretch}
+use Rattle.energy.specs.Energy.{at_end, state, listed, listed_for, on_in, on_slots, start_at, starts_from, starts_of, starts, on}
+use Rattle.energy.specs.EnergyLaws.{on_slots_le, starts_of_le, on_le, starts_most}
+use Rattle.energy.specs.Usage.{blower_use, CanCharge}
 use Rattle.energy.specs.declared.BlowerUse.{BlowerUse}
-use Rattle.energy.specs.declared.DayUse.{DayUse}
 
--- ---- states, on slots and starts by cases
+-- ---- states by cases
 
 pub state_busy : (d q first last : ℕ) (b : Bool) → b ≡ true → 2 ≡ state d q (stretch first last b)
 unfolding state
@@ -53,175 +44,130 @@ module _ (d q first last : ℕ) (b : Bool) (e : b ≡ false) where
     unfolding state at_end size
     state_on f g l = rw (e, ne_eqb first 1 f, ne_eqb last d g, lt-leb q (suc last - first) (omega arith))
 
-pub on_in_off : (x n : ℕ) → x ≡ 0 → 0 ≡ on_in x n
-unfolding on_in
-on_in_off x n e = rw (eq-eqb x 0 e)
-
-pub on_in_on : (x n : ℕ) → (x ≡ 0 → ⊥) → n ≡ on_in x n
-unfolding on_in
-on_in_on x n e = rw (ne_eqb x 0 e)
-
-pub start_at_after_on : (x y : ℕ) → (x ≡ 0 → ⊥) → 0 ≡ start_at x y
-unfolding start_at
-start_at_after_on x y e = rw (ne_eqb x 0 e)
-
-pub start_at_stays_off : (x y : ℕ) → x ≡ 0 → y ≡ 0 → 0 ≡ start_at x y
-unfolding start_at
-start_at_stays_off x y e f = rw (e, f)
-
-pub start_at_goes_on : (x y : ℕ) → x ≡ 0 → (y ≡ 0 → ⊥) → 1 ≡ start_at x y
-unfolding start_at
-start_at_goes_on x y e f = rw (e, le-leb 1 y (omega arith))
-
 -- ---- one blower
 
-size_places : (from end : ℕ) (b : Bool) → from < end → size (stretch (from + 1) end b) ≡ end - from
-unfolding size
-size_places from end b h = omega arith
+-- the on slots of listed stretches
+unfoldable pub on_of : List ListedStretch → ℕ
+on_of ss = sum (map (λ s. on_in s.state (s.last + 1 - s.first)) ss)
 
--- the on slots and the starts of blower k before place `from`, where its state is `before`: with those from there on they are all
-pub record UsedTo (q : ℕ) (counts : List ℕ) (slots k from before : ℕ) (used started : ℕ) : Type 0 where
-  pub in_day : from ≤ slots
-  pub on_few : used ≤ from
-  pub starts_few : started ≤ from
-  pub on_all : on_slots slots q (intervals (take slots counts) k) ≡ used + on_slots slots q (stretches_from counts slots k from)
-  pub starts_all : starts_of slots q (intervals (take slots counts) k) ≡ started + starts_from before (map (state slots q) (stretches_from counts slots k from))
+-- the starts along listed stretches, after the state before them
+unfoldable pub starts_after : (before : ℕ) → List ListedStretch → ℕ
+starts_after before ss = starts_from before (map (λ s. s.state) ss)
 
-module _ {q : ℕ} {counts : List ℕ} {slots k : ℕ} where
-  pub used_to_begin : UsedTo q counts slots k 0 0 0 0
-  unfolding starts_of
-  used_to_begin =
+on_of_listed : (d q k : ℕ) (vs : List Interval) → on_slots d q vs ≡ on_of (map (listed d q k) vs)
+unfolding on_slots on_of listed size
+on_of_listed d q k [] = refl
+on_of_listed d q k (v ∷ vs) = omega (arith, on_of_listed d q k vs, ap (on_in (state d q v)) (slots v.first v.last))
+  where
+    slots : (a b : ℕ) → suc b - a ≡ b + 1 - a
+    slots a b = omega arith
+
+starts_after_listed : (d q k : ℕ) (vs : List Interval) → starts_of d q vs ≡ starts_after 0 (map (listed d q k) vs)
+unfolding starts_of starts_after listed
+starts_after_listed d q k vs = ap (starts_from 0) (go vs)
+  where
+    go : (vs : List Interval) → map (state d q) vs ≡ map (λ s. s.state) (map (listed d q k) vs)
+    go [] = refl
+    go (v ∷ vs) = ap (λ xs. state d q v ∷ xs) (go vs)
+
+-- the on slots and the starts of the stretches passed, the last of which has the state `before`: with those of the stretches left they are all
+pub record Used (q : ℕ) (counts : List ℕ) (k before used started : ℕ) (rest : List ListedStretch) : Type 0 where
+  pub on_all : on_slots (length counts) q (intervals counts k) ≡ used + on_of rest
+  pub starts_all : starts_of (length counts) q (intervals counts k) ≡ started + starts_after before rest
+
+module _ {q : ℕ} {counts : List ℕ} {k : ℕ} where
+  pub used_begin : {rest : List ListedStretch} → rest ≡ listed_for q counts k → Used q counts k 0 0 0 rest
+  unfolding listed_for
+  used_begin e =
       record {
-        in_day = omega arith;
-        on_few = omega arith;
-        starts_few = omega arith;
-        on_all = ap (on_slots slots q) (stretches_from_begin counts slots k) ∙ omega arith;
-        starts_all = ap (λ vs. starts_from 0 (map (state slots q) vs)) (stretches_from_begin counts slots k) ∙ omega arith;
+        on_all = on_of_listed (length counts) q k (intervals counts k) ∙ ap on_of (sym e) ∙ omega arith;
+        starts_all = starts_after_listed (length counts) q k (intervals counts k) ∙ ap (starts_after 0) (sym e) ∙ omega arith;
       }
 
-  module _ {from before used started : ℕ} (u : UsedTo q counts slots k from before used started) where
-    pub used_to_more : {t : Stretch} {n s : ℕ} → Found q counts slots k from t → n ≡ on_in t.state (t.last - from)
-        → s ≡ start_at before t.state → UsedTo q counts slots k t.last t.state (used + n) (started + s)
-    unfolding on_slots starts_from listed
-    used_to_more {t} {n} {s} f g h =
+  module _ {before used started : ℕ} {rest : List ListedStretch} (u : Used q counts k before used started rest) where
+    pub used_more : {s : ListedStretch} {rest' : List ListedStretch} {m n r : ℕ} → rest ≡ s ∷ rest' → m ≡ s.last + 1 - s.first → n ≡ on_in s.state m
+        → r ≡ start_at before s.state → Used q counts k s.state (used + n) (started + r) rest'
+    unfolding on_of starts_after starts_from
+    used_more {s} {rest'} {m} {n} {r} e f g h =
         record {
-          in_day = e.within;
-          on_few = omega (arith, e.after, on_in_le t.state (t.last - from));
-          starts_few = omega (arith, e.after, start_at_le before t.state);
-          on_all = omega (arith, u.on_all, more);
-          starts_all = omega (arith, u.starts_all, begun);
+          on_all = omega (arith, u.on_all, ap on_of e, g ∙ ap (on_in s.state) f);
+          starts_all = omega (arith, u.starts_all, ap (starts_after before) e, h);
         }
+
+    -- no more than the day's slots
+    pub used_few : (used ≤ length counts) × (started ≤ suc (length counts))
+    used_few = (omega (arith, u.on_all, on_slots_le (length counts) q counts k), omega (arith, u.starts_all, starts_of_le (length counts) q counts k))
+
+    pub used_end : rest ≡ [] → record { on = used; starts = started } ≡ blower_use (length counts) q (intervals counts k)
+    unfolding blower_use on_of starts_after starts_from
+    used_end e = same _ _ _ _ (omega (arith, u.on_all, ap on_of e)) (omega (arith, u.starts_all, ap (starts_after before) e))
       where
-        e : EndsAt counts slots k from t.last
-        e = f.ends
-
-        v : Interval
-        v = stretch (from + 1) t.last (busy_in counts k from)
-
-        state_v : t.state ≡ state slots q v
-        state_v = ap (λ (y : Stretch). y.state) f.is
-
-        left : List Interval
-        left = stretches_from counts slots k t.last
-
-        on_v : on_in (state slots q v) (size v) ≡ n
-        on_v = rw (size_places from t.last (busy_in counts k from) e.after, ← state_v) (sym g)
-
-        more : on_slots slots q (stretches_from counts slots k from) ≡ n + on_slots slots q left
-        more = ap (on_slots slots q) e.next ∙ ap (λ m. m + on_slots slots q left) on_v
-
-        begun : starts_from before (map (state slots q) (stretches_from counts slots k from))
-            ≡ s + starts_from t.state (map (state slots q) left)
-        begun = ap (λ vs. starts_from before (map (state slots q) vs)) e.next ∙ rw (← state_v, h)
-
-    pub used_to_end : slots ≤ from → record { on = used; starts = started } ≡ blower_use slots q (intervals (take slots counts) k)
-    unfolding blower_use on_slots starts_from
-    used_to_end h = same _ _ _ _ (omega (arith, u.on_all, none)) (omega (arith, u.starts_all, unbegun))
-      where
-        last : from ≡ slots
-        last = omega (arith, u.in_day)
-
-        none : on_slots slots q (stretches_from counts slots k from) ≡ 0
-        none = rw (last, stretches_from_end counts slots k)
-
-        unbegun : starts_from before (map (state slots q) (stretches_from counts slots k from)) ≡ 0
-        unbegun = rw (last, stretches_from_end counts slots k)
-
         same : (a b a' b' : ℕ) → a ≡ a' → b ≡ b' → ◌≡◌ {A = BlowerUse} (record { on = a; starts = b }) (record { on = a'; starts = b' })
         same a b a' b' p r = rw (p, r)
 
 -- ---- all blowers
 
--- one blower more of those from a on
-sum_next : (f : ℕ → ℕ) (m done : ℕ) → done < m → sum (map f (range (suc done) (m - done))) ≡ f (done + 1) + sum (map f (range (suc (done + 1)) (m - (done + 1))))
-sum_next f m done h = ap (λ n. sum (map f (range (suc done) n))) left ∙ rw (← add-one done)
+-- the on slots and the starts of the blowers before b: with those of the others they are all
+pub record UsedBefore (m q : ℕ) (counts : List ℕ) (b used started : ℕ) : Type 0 where
+  pub on_all : on m q counts ≡ used + sum (map (λ k. on_slots (length counts) q (intervals counts k)) (range b (m + 1 - b)))
+  pub starts_all : starts m q counts ≡ started + sum (map (λ k. starts_of (length counts) q (intervals counts k)) (range b (m + 1 - b)))
+
+-- all blowers, those from 1 on
+pub sum_all : (f : ℕ → ℕ) (m : ℕ) → sum (map f (range 1 m)) ≡ 0 + sum (map f (range 1 (m + 1 - 1)))
+sum_all f m = ap (λ n. sum (map f (range 1 n))) (all m) ∙ omega arith
   where
-    left : m - done ≡ suc (m - (done + 1))
+    all : (n : ℕ) → n ≡ n + 1 - 1
+    all n = omega arith
+
+-- one blower more of those from b on
+pub sum_next : (f : ℕ → ℕ) (m b : ℕ) → b ≤ m → sum (map f (range b (m + 1 - b))) ≡ f b + sum (map f (range (b + 1) (m + 1 - (b + 1))))
+sum_next f m b h = ap (λ n. sum (map f (range b n))) left ∙ ap (λ c. f b + sum (map f (range c (m + 1 - (b + 1))))) (next b)
+  where
+    left : m + 1 - b ≡ suc (m + 1 - (b + 1))
     left = omega arith
 
--- the on slots and the starts of `done` blowers: with those of the others they are all
-pub record UsedBy (m q : ℕ) (counts : List ℕ) (slots done used started : ℕ) : Type 0 where
-  pub in_range : done ≤ m
-  pub on_few : used ≤ done * 96
-  pub starts_few : started ≤ done * 96
-  pub on_all : on m q (take slots counts) ≡ used + sum (map (λ k. on_slots (length (take slots counts)) q (intervals (take slots counts) k)) (range (suc done) (m - done)))
-  pub starts_all : starts m q (take slots counts) ≡ started + sum (map (λ k. starts_of (length (take slots counts)) q (intervals (take slots counts) k)) (range (suc done) (m - done)))
+    next : (n : ℕ) → suc n ≡ n + 1
+    next n = omega arith
 
-module _ (m q : ℕ) (counts : List ℕ) (slots : ℕ) (day : Day counts slots) where
-  pub used_by_begin : UsedBy m q counts slots 0 0 0
+-- after the last blower
+pub sum_none : (f : ℕ → ℕ) (m b : ℕ) → m < b → sum (map f (range b (m + 1 - b))) ≡ 0
+sum_none f m b h = ap (λ n. sum (map f (range b n))) over
+  where
+    over : m + 1 - b ≡ 0
+    over = omega arith
+
+module _ {m q : ℕ} {counts : List ℕ} where
+  pub used_before_begin : UsedBefore m q counts 1 0 0
   unfolding on starts
-  used_by_begin =
+  used_before_begin =
       record {
-        in_range = omega arith;
-        on_few = omega arith;
-        starts_few = omega arith;
-        on_all = whole (λ k. on_slots (length (take slots counts)) q (intervals (take slots counts) k));
-        starts_all = whole (λ k. starts_of (length (take slots counts)) q (intervals (take slots counts) k));
+        on_all = sum_all (λ k. on_slots (length counts) q (intervals counts k)) m;
+        starts_all = sum_all (λ k. starts_of (length counts) q (intervals counts k)) m;
       }
-    where
-      whole : (f : ℕ → ℕ) → sum (map f (range 1 m)) ≡ 0 + sum (map f (range 1 (m - 0)))
-      whole f = ap (λ n. sum (map f (range 1 n))) (all m) ∙ omega arith
-        where
-          all : (n : ℕ) → n ≡ n - 0
-          all n = omega arith
 
-  module _ (done used started : ℕ) (u : UsedBy m q counts slots done used started) where
-    pub used_by_more : (r : BlowerUse) → done < m → r ≡ blower_use slots q (intervals (take slots counts) (done + 1)) → UsedBy m q counts slots (done + 1) (used + r.on) (started + r.starts)
+  module _ {b used started : ℕ} (u : UsedBefore m q counts b used started) where
+    pub used_before_more : {r : BlowerUse} → b ≤ m → r ≡ blower_use (length counts) q (intervals counts b)
+        → UsedBefore m q counts (b + 1) (used + r.on) (started + r.starts)
     unfolding blower_use
-    used_by_more r h f =
-        let z : length (take slots counts) ≡ slots = length-take-le slots counts (omega (arith, day.long, day.day)) in
-        let e : r ≡ blower_use (length (take slots counts)) q (intervals (take slots counts) (done + 1)) = f ∙ ap (λ n. blower_use n q (intervals (take slots counts) (done + 1))) (sym z) in
-        let p : r.on ≡ on_slots (length (take slots counts)) q (intervals (take slots counts) (done + 1)) = ap (λ (x : BlowerUse). x.on) e in
-        let s : r.starts ≡ starts_of (length (take slots counts)) q (intervals (take slots counts) (done + 1)) = ap (λ (x : BlowerUse). x.starts) e in
-        let l : length (take slots counts) ≤ 96 = rw length-take (omega arith) in
+    used_before_more {r} h e =
         record {
-          in_range = omega arith;
-          on_few = omega (arith, on_slots_le (length (take slots counts)) q (take slots counts) (done + 1));
-          starts_few = omega (arith, starts_of_le (length (take slots counts)) q (take slots counts) (done + 1));
-          on_all = omega (arith, u.on_all, sum_next (λ k. on_slots (length (take slots counts)) q (intervals (take slots counts) k)) m done h);
-          starts_all = omega (arith, u.starts_all, sum_next (λ k. starts_of (length (take slots counts)) q (intervals (take slots counts) k)) m done h);
+          on_all = omega (arith, u.on_all, ap (λ (x : BlowerUse). x.on) e, sum_next (λ k. on_slots (length counts) q (intervals counts k)) m b h);
+          starts_all = omega (arith, u.starts_all, ap (λ (x : BlowerUse). x.starts) e, sum_next (λ k. starts_of (length counts) q (intervals counts k)) m b h);
         }
 
-    pub used_by_end : m ≤ done → record { energy = used + q * started; starts = started } ≡ day_use m q (take slots counts)
-    unfolding day_use energy
-    used_by_end h = same _ _ _ _ (omega (arith, u.on_all, none (λ k. on_slots (length (take slots counts)) q (intervals (take slots counts) k)))) (omega (arith, u.starts_all, none (λ k. starts_of (length (take slots counts)) q (intervals (take slots counts) k))))
-      where
-        none : (f : ℕ → ℕ) → sum (map f (range (suc done) (m - done))) ≡ 0
-        none f = ap (λ n. sum (map f (range (suc done) n))) over
-          where
-            over : m - done ≡ 0
-            over = omega arith
+    pub used_before_end : m < b → (used ≡ on m q counts) × (started ≡ starts m q counts)
+    used_before_end h = (
+      omega (arith, u.on_all, sum_none (λ k. on_slots (length counts) q (intervals counts k)) m b h),
+      omega (arith, u.starts_all, sum_none (λ k. starts_of (length counts) q (intervals counts k)) m b h),
+    )
 
-        same : (a b a' b' : ℕ) → a ≡ a' → b ≡ b' → ◌≡◌ {A = DayUse} (record { energy = a + q * b; starts = b }) (record { energy = a' + q * b'; starts = b' })
-        same a b a' b' p r = rw (p, r)
+    -- what is counted is small
+    pub used_before_few : CanCharge m q → length counts ≤ 96 → (used ≤ 768) × (started ≤ 384)
+    used_before_few can day = (omega (arith, u.on_all, on_le m q counts, mul-le-mul can.few day), omega (arith, u.starts_all, starts_most m q counts can.few can.wake_most day))
 
--- what is counted is small
-pub record Small (m q used started : ℕ) : Type 0 where
-  pub on : used ≤ 768
-  pub starts : started ≤ 768
-  pub charge : q * started ≤ max_wake * 768
-
-pub charge_le : {m q : ℕ} {counts : List ℕ} {slots done used started : ℕ} → CanCharge counts slots m q → UsedBy m q counts slots done used started → Small m q used started
-charge_le {started = started} h u =
-    let s : started ≤ 768 = omega (arith, h.few, u.starts_few, u.in_range) in
-    record { on = omega (arith, h.few, u.on_few, u.in_range); starts = s; charge = mul-le-mul h.wake_most s }
+-- the day's energy is small
+pub energy_few : (m q : ℕ) (counts : List ℕ) → CanCharge m q → length counts ≤ 96
+    → (on m q counts ≤ 768) × (starts m q counts ≤ 384) × (q * starts m q counts ≤ max_wake * 384)
+energy_few m q counts can day =
+    let s : starts m q counts ≤ 384 = starts_most m q counts can.few can.wake_most day in
+    (omega (arith, on_le m q counts, mul-le-mul can.few day), s, mul-le-mul can.wake_most s)

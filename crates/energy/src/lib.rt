@@ -1,28 +1,22 @@
 // Energy: which stretches are off, the starts, and the energy of a day.
 //
 // An idle stretch is off at the ends of the day, and with at least q slots within it; a shorter one is on.
-// `stretch_at` gives a blower's stretch at a slot, with its state, here and for the bill and the stretch lines. A
-// blower's slots are passed once, from stretch to stretch: the on slots and the steps from off to on add up, and the
-// energy is their number with q for each start. For the layers above: each function asks for counts of a day.
+// `CountedDay` has a day's counts. Its `stretch_at` gives a blower's stretch at a slot, with its state, and its
+// `stretches` goes over a blower's stretches, here and for the bill and the stretch lines. So a blower's slots are
+// passed once: the on slots and the steps from off to on add up, and the energy is their number with q for each start.
 #![tactic(auto)]
 
-mod states;
+mod day;
+mod stretch;
 mod usage;
+mod walk;
 
-pub use states::stretch_at;
+pub use day::CountedDay;
+pub use stretch::{State, Stretch};
 pub use usage::day_use;
+pub use walk::Stretches;
 
-// A stretch as its line of the listing gives it: its blower, its first and last slot, and its state (0 off, 1 idle and
-// on, 2 busy).
-#[derive(Clone, Copy)]
-pub struct Stretch {
-    pub blower: u32,
-    pub first: usize,
-    pub last: usize,
-    pub state: u32,
-}
-
-// A blower's on slots, and its starts.
+// On slots and starts, of a blower or of all.
 #[derive(Clone, Copy)]
 pub struct BlowerUse {
     pub on: usize,

@@ -1,66 +1,73 @@
 // On slots and starts, from the counts of the slots.
-ghost use Rattle.std.specs.Prelude.{◌≡◌, take};
+ghost use Rattle.std.specs.Prelude.{◌≡◌, length};
 ghost use Rattle.method.specs.Intervals.{intervals};
-ghost use Rattle.energy.specs.Energy.{on_in, start_at};
-ghost use Rattle.energy.specs.Usage.{blower_use, day_use, Day, CanCharge};
+ghost use Rattle.energy.specs.Energy.{on_in, start_at, starts, on};
+ghost use Rattle.energy.specs.Listed.{number_of};
+ghost use Rattle.energy.specs.Usage.{blower_use, day_use, CanCharge};
 
-use crate::{BlowerUse, DayUse, states};
+use crate::{BlowerUse, CountedDay, DayUse, State};
 
 // Of so many slots in one state, those in which the blower is on.
-fn on_in(state: u32, slots: usize) -> usize
-    ensures { result ≡ on_in state slots }
+#[tactic(auto, unfolding(crate::specs::Energy::on_in))]
+fn on_in(state: State, slots: usize) -> usize
+    ensures { result ≡ on_in (number_of state) slots }
 {
-    if state == 0 { 0 } else { slots }
+    match state {
+        State::Off => 0,
+        State::Idle | State::Busy => slots,
+    }
 }
 
 // 1 for a step from off to on, 0 for any other.
-fn start_at(before: u32, after: u32) -> usize
-    ensures { result ≡ start_at before after }
+#[tactic(auto, unfolding(crate::specs::Energy::start_at))]
+fn start_at(before: State, after: State) -> usize
+    ensures { result ≡ start_at (number_of before) (number_of after) }
 {
-    if before != 0 {
-        return 0;
+    match (before, after) {
+        (State::Off, State::Idle | State::Busy) => 1,
+        (State::Off, State::Off) | (State::Idle | State::Busy, _) => 0,
     }
-    if after == 0 {
-        return 0;
-    }
-    1
 }
 
 // One blower's on slots and starts: one pass over its stretches. Blowers are off before slot 1.
-fn blower_use(counts: &[u8; 96], slots: usize, blower: u32, wake: u32) -> BlowerUse
-    requires { Day counts.now slots }
-    ensures { result ≡ blower_use slots wake (intervals (take slots counts.now) blower) }
+fn blower_use(day: &CountedDay<'_>, blower: u32) -> BlowerUse
+    ensures { result ≡ blower_use (length day.now.counts.now) day.now.wake (intervals day.now.counts.now blower) }
 {
     let mut on = 0;
     let mut starts = 0;
-    let mut before = 0;
-    let mut from = 0;
-    while from < slots {
-        let stretch = states::stretch_at(counts, slots, blower, wake, from);
-        on += on_in(stretch.state, stretch.last - from);
+    let mut before = State::Off;
+    for stretch in day.stretches(blower) {
+        on += on_in(stretch.state, stretch.slots());
         starts += start_at(before, stretch.state);
         before = stretch.state;
-        from = stretch.last;
     }
     BlowerUse { on, starts }
 }
 
-// The energy and the starts of all blowers, from 1 on. It costs one pass over the slots for each blower.
-pub fn day_use(counts: &[u8; 96], slots: usize, blowers: u32, wake: u32) -> DayUse
-    requires { CanCharge counts.now slots blowers wake }
-    ensures { result ≡ day_use blowers wake (take slots counts.now) }
+// All blowers' on slots and starts, from blower 1 on. It costs one pass over the slots for each blower.
+fn blowers_use(day: &CountedDay<'_>, blowers: u32) -> BlowerUse
+    requires { CanCharge blowers day.now.wake }
+    ensures on { result.on ≡ on blowers day.now.wake day.now.counts.now }
+    ensures starts { result.starts ≡ starts blowers day.now.wake day.now.counts.now }
 {
     let mut on = 0;
     let mut starts = 0;
-    let mut done = 0;
-    while done < blowers {
-        let used = blower_use(counts, slots, done + 1, wake);
+    for blower in 1..=blowers {
+        let used = blower_use(day, blower);
         on += used.on;
         starts += used.starts;
-        done += 1;
     }
+    BlowerUse { on, starts }
+}
+
+// The energy and the starts of all blowers.
+pub fn day_use(day: &CountedDay<'_>, blowers: u32) -> DayUse
+    requires { CanCharge blowers day.now.wake }
+    ensures { result ≡ day_use blowers day.now.wake day.now.counts.now }
+{
+    let used = blowers_use(day, blowers);
     DayUse {
-        energy: (on + wake as usize * starts) as u32,
-        starts: starts as u32,
+        energy: (used.on + day.wake as usize * used.starts) as u32,
+        starts: used.starts as u32,
     }
 }

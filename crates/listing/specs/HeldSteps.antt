@@ -1,7 +1,7 @@
 -- How a held sheet's listing is put: one slot more, then the head line. Assumes nothing.
 use Rattle.std.specs.Prelude.{◌≡◌, Bool, true, false, cond, List, [], ◌∷◌, ◌++◌, map, ℕ, suc, ◌+◌, ◌*◌, ◌≤◌, ◌<◌, ltb, length, get_or, take}
 use Rattle.std.proofs.Math.Path.{refl, sym, ap}
-use Rattle.std.proofs.Common.{◌∙◌, add-one, arith, lt-ltb, le-ltb}
+use Rattle.std.proofs.Common.{subst, ◌∙◌, add-one, arith, lt-ltb, le-ltb}
 use Rattle.std.proofs.lemmas.List.{map-append}
 use Rattle.std.proofs.Math.ListN.{length-map, length-take}
 use Rattle.common.specs.Lists.{part, count}
@@ -16,6 +16,7 @@ use Rattle.plan_lines.specs.Lines.{Line, line, members_from, member_lines, held_
 use Rattle.plan_lines.specs.Text.{write_lines, held_word, held_text}
 use Rattle.plan_lines.specs.Inputs.{set_of}
 use Rattle.plan_lines.specs.Putting.{Put, Putting, Room, putting_begin, putting_more, putting_room, putting_end, put_one, put_at_nothing, length_write_lines}
+use Rattle.plan_lines.proofs.FrontLaws.{set_of_front}
 use Rattle.listing.specs.Opening.{Written, listing_written, listing_length}
 use Rattle.checks.specs.Refusals.{no_placing}
 
@@ -38,9 +39,9 @@ module _ (slot mark at : ℕ) (old : List ℕ) where
     unfolding member_of
     member_room r = omega (arith, rw marked at r)
 
-    pub member_put : (new : List ℕ) → new ≡ put_at at (write_line slot 0 0 0) old → Put (member_of slot (ltb 0 mark)) at old new 1
+    pub member_put : {new : List ℕ} → new ≡ put_at at (write_line slot 0 0 0) old → Put (member_of slot (ltb 0 mark)) at old new 1
     unfolding member_of
-    member_put new e = rw marked (put_one (line slot 0 0 0) at old new e)
+    member_put {new} e = rw marked (put_one (line slot 0 0 0) at old new e)
 
 -- All slots --------------------------------------------------------------------------
 
@@ -61,7 +62,7 @@ set_from slots marks t = map (ltb 0) (part t slots marks)
 
 pub record CanPutMembers (out : List ℕ) (at slots : ℕ) (marks : List ℕ) : Type 0 where
   pub day : slots ≤ 96
-  pub long : length marks ≡ 96
+  pub long : slots ≤ length marks
   pub room : Room (member_lines 1 (set_of slots marks)) at out
 
 -- the slots before slot t + 1 were put
@@ -69,7 +70,7 @@ pub record MembersPut (marks : List ℕ) (slots t at : ℕ) (old new : List ℕ)
   pub in_day : t ≤ slots
   pub putting : Putting (member_lines 1 (set_of slots marks)) (member_lines (suc t) (set_from slots marks t)) at old new n
 
-module _ (marks : List ℕ) (slots at : ℕ) (old : List ℕ) (can : CanPutMembers old at slots marks) where
+module _ {marks : List ℕ} {slots at : ℕ} {old : List ℕ} (can : CanPutMembers old at slots marks) where
   pub members_begin : MembersPut marks slots 0 at old old 0
   unfolding set_of
   members_begin =
@@ -78,7 +79,7 @@ module _ (marks : List ℕ) (slots at : ℕ) (old : List ℕ) (can : CanPutMembe
         putting = putting_begin at old _ can.room _ (ap (λ l. member_lines 1 (map (ltb 0) l)) (part_front marks slots));
       }
 
-  module _ (t n : ℕ) (new : List ℕ) (p : MembersPut marks slots t at old new n) where
+  module _ {t n : ℕ} {new : List ℕ} (p : MembersPut marks slots t at old new n) where
     next : t < slots → member_lines (suc t) (set_from slots marks t) ≡ member_of (t + 1) (ltb 0 (get_or marks t 0)) ++ member_lines (suc (t + 1)) (set_from slots marks (t + 1))
     next h =
         ap (λ l. member_lines (suc t) (map (ltb 0) l)) (part_cons marks t slots 0 h (omega (arith, can.day, can.long)))
@@ -88,9 +89,9 @@ module _ (marks : List ℕ) (slots at : ℕ) (old : List ℕ) (can : CanPutMembe
     pub members_room : t < slots → Room (member_of (t + 1) (ltb 0 (get_or marks t 0))) (at + line_bytes * n) new
     members_room h = putting_room at old _ can.room (member_of (t + 1) (ltb 0 (get_or marks t 0))) (member_lines (suc (t + 1)) (set_from slots marks (t + 1))) p.putting (next h)
 
-    pub members_more : (r : ℕ) (new' : List ℕ) → t < slots → Put (member_of (t + 1) (ltb 0 (get_or marks t 0))) (at + line_bytes * n) new new' r
+    pub members_more : {r : ℕ} {new' : List ℕ} → t < slots → Put (member_of (t + 1) (ltb 0 (get_or marks t 0))) (at + line_bytes * n) new new' r
         → MembersPut marks slots (t + 1) at old new' (n + r)
-    members_more r new' h s = record { in_day = omega arith; putting = putting_more at old _ can.room _ _ r p.putting (next h) s }
+    members_more {r} h s = record { in_day = omega arith; putting = putting_more at old _ can.room _ _ r p.putting (next h) s }
 
     pub members_end : slots ≤ t → Put (member_lines 1 (set_of slots marks)) at old new n
     unfolding member_lines members_from
@@ -113,12 +114,20 @@ module _ {slots : ℕ} {marks old : List ℕ} (can : CanPutHeld old slots marks)
   members_few =
       omega (arith, length_member_lines 1 (set_of slots marks), count_le_length (set_of slots marks), length-map (take slots marks) (ltb 0), length-take slots marks, can.day)
 
-  pub held_can : {o₁ : List ℕ} → o₁ ≡ put_at 0 held_word old → CanPutMembers o₁ (word_bytes + line_bytes) slots marks
+  -- the marks of the day's slots alone are the same set
+  same_set : set_of (length (take slots marks)) (take slots marks) ≡ set_of slots marks
+  same_set = set_of_front slots marks (omega (arith, can.day, can.long))
+
+  pub members_put : {at n : ℕ} {o o' : List ℕ} → Put (member_lines 1 (set_of (length (take slots marks)) (take slots marks))) at o o' n
+      → Put (member_lines 1 (set_of slots marks)) at o o' n
+  members_put {at} {n} {o} {o'} = subst (λ q. Put (member_lines 1 q) at o o' n) same_set
+
+  pub held_can : {o₁ : List ℕ} → o₁ ≡ put_at 0 held_word old → CanPutMembers o₁ (word_bytes + line_bytes) (length (take slots marks)) (take slots marks)
   held_can e =
       record {
-        day = can.day;
-        long = can.long;
-        room = omega (arith, members_few, ap length e ∙ length_put_at 0 held_word old (omega (arith, can.room)), can.room);
+        day = omega (arith, length-take slots marks, can.day);
+        long = omega arith;
+        room = rw same_set (omega (arith, members_few, ap length e ∙ length_put_at 0 held_word old (omega (arith, can.room)), can.room));
       }
 
   module _ {o₁ o₂ : List ℕ} {n : ℕ} (e₁ : o₁ ≡ put_at 0 held_word old)
@@ -133,7 +142,7 @@ module _ {slots : ℕ} {marks old : List ℕ} (can : CanPutHeld old slots marks)
           ap length e₁ ∙ length_put_at 0 held_word old (omega (arith, can.room)),
           ap length s.text
               ∙ length_put_at (word_bytes + line_bytes) (write_lines (member_lines 1 (set_of slots marks))) o₁
-              (omega (arith, length_write_lines (member_lines 1 (set_of slots marks)), (held_can e₁).room)),
+              (omega (arith, length_write_lines (member_lines 1 (set_of slots marks)), members_few, ap length e₁ ∙ length_put_at 0 held_word old (omega (arith, can.room)), can.room)),
           can.room,
         )
 

@@ -1,5 +1,4 @@
 -- What the functions within the crate require and ensure, and the steps of their loops
 pub mod Opening
-pub mod WordSteps
 pub mod HeldSteps
 pub mod PlanSteps

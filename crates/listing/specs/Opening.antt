@@ -1,14 +1,14 @@
 -- A listing at the front of a buffer: its word, its head line, and its other lines, which may be put before the head line. Assumes nothing.
-use Rattle.std.specs.Prelude.{◌≡◌, refl, length, set, drop}
+use Rattle.std.specs.Prelude.{◌≡◌, refl, length, drop}
 use Rattle.std.proofs.Common.{sym, ◌∙◌, arith, length-append}
 use Rattle.std.proofs.Math.Path.{ap}
 use mathlib.Core.List.{List, [], ◌∷◌, ◌++◌}
-use Prim.Native.Nat.{ℕ, ◌+◌, ◌*◌, ◌≤◌, ◌<◌}
+use Prim.Native.Nat.{ℕ, ◌+◌, ◌*◌, ◌≤◌}
 use Rattle.line.specs.Layout.{line_bytes}
 use Rattle.line.specs.Line.{write_line}
 use Rattle.line.specs.LineLaws.{length_write_line}
 use Rattle.common.specs.Buffers.{over, put_at}
-use Rattle.common.specs.BufferLaws.{put_at_append, length_put_at, set_put_at}
+use Rattle.common.specs.BufferLaws.{put_at_append, length_put_at}
 use Rattle.plan_lines.specs.Sizes.{word_bytes}
 use Rattle.plan_lines.specs.Lines.{Line, line}
 use Rattle.plan_lines.specs.Text.{write_lines, held_word, refusal_text}
@@ -25,25 +25,6 @@ put_at_over text old = ap (λ n. text ++ drop n old) (zero_plus (length text))
   where
     zero_plus : (n : ℕ) → 0 + n ≡ n
     zero_plus n = omega arith
-
--- five bytes at the front
-pub put_five : (a b c d e : ℕ) (old : List ℕ) → word_bytes ≤ length old
-    → set (set (set (set (set old 0 a) 1 b) 2 c) 3 d) 4 e ≡ put_at 0 (a ∷ b ∷ c ∷ d ∷ e ∷ []) old
-put_five a b c d e old h =
-    ap (λ l. set (set (set (set l 1 b) 2 c) 3 d) 4 e) (set_put_at 0 a old (omega arith))
-    ∙ ap (λ l. set (set (set l 2 c) 3 d) 4 e) (more 1 b (a ∷ []) refl (omega arith))
-    ∙ ap (λ l. set (set l 3 d) 4 e) (more 2 c (a ∷ b ∷ []) refl (omega arith))
-    ∙ ap (λ l. set l 4 e) (more 3 d (a ∷ b ∷ c ∷ []) refl (omega arith))
-    ∙ more 4 e (a ∷ b ∷ c ∷ d ∷ []) refl (omega arith)
-  where
-    more : (k x : ℕ) (xs : List ℕ) → length xs ≡ k → k < length old → set (put_at 0 xs old) k x ≡ put_at 0 (xs ++ (x ∷ [])) old
-    more k x xs e l =
-        set_put_at k x (put_at 0 xs old) (omega (arith, length_put_at 0 xs old (omega (arith, e))))
-        ∙ ap (λ i. put_at i (x ∷ []) (put_at 0 xs old)) (zero_plus k)
-        ∙ put_at_append 0 k xs (x ∷ []) old e (omega arith)
-      where
-        zero_plus : (n : ℕ) → n ≡ 0 + n
-        zero_plus n = omega arith
 
 module _ (word : List ℕ) (short : length word ≡ word_bytes) (old : List ℕ) where
   pub listing_length : (ls : List Line) → length (word ++ write_lines ls) ≡ word_bytes + line_bytes * length ls

@@ -1,6 +1,6 @@
 // The listing of a sheet held for want of blowers: 12, the number of slots shown, forced, capacity, then a line for
 // each slot.
-ghost use Rattle.std.specs.Prelude.{◌*◌, ltb};
+ghost use Rattle.std.specs.Prelude.{◌*◌, length, ltb};
 ghost use Rattle.plan_lines.specs.Lines.{member_lines};
 ghost use Rattle.plan_lines.specs.Text.{held_text};
 ghost use Rattle.plan_lines.specs.Inputs.{set_of};
@@ -9,7 +9,7 @@ ghost use Rattle.listing.specs.Opening.{Written};
 ghost use Rattle.listing.specs.HeldSteps.{member_of, CanPutMembers, CanPutHeld};
 
 use crate::opening;
-use checks::refusals::NO_PLACING;
+use checks::Fault;
 use line::layout::LINE;
 use plan_lines::sizes::WORD;
 
@@ -25,16 +25,14 @@ fn put_member(out: &mut [u8], at: usize, slot: u32, mark: u8) -> usize
     1
 }
 
-// Writes a line for each slot that is marked, from a place of out on, and answers how many.
-fn put_members(out: &mut [u8], at: usize, slots: usize, marks: &[u8; 96]) -> usize
-    requires { CanPutMembers out.old at slots marks.now }
-    ensures { Put (member_lines 1 (set_of slots marks.now)) at out.old out.new result }
+// Writes a line for each slot that is marked, of slots with a mark each, from a place of out on, and answers how many.
+fn put_members(out: &mut [u8], at: usize, marks: &[u8]) -> usize
+    requires { CanPutMembers out.old at (length marks.now) marks.now }
+    ensures { Put (member_lines 1 (set_of (length marks.now) marks.now)) at out.old out.new result }
 {
     let mut n = 0;
-    let mut t = 0;
-    while t < slots {
-        n += put_member(out, at + LINE * n, t as u32 + 1, marks[t]);
-        t += 1;
+    for (t, mark) in marks.iter().enumerate() {
+        n += put_member(out, at + LINE * n, t as u32 + 1, *mark);
     }
     n
 }
@@ -44,8 +42,8 @@ pub fn put_held(out: &mut [u8], slots: usize, marks: &[u8; 96], forced: u32, cap
     requires { CanPutHeld out.old slots marks.now }
     ensures { Written (held_text (set_of slots marks.now) forced capacity) out.old out.new result }
 {
-    opening::put_word(out, b'H', b'E', b'L', b'D');
-    let n = put_members(out, WORD + LINE, slots, marks);
-    line::put_line(out, WORD, NO_PLACING, n as u32, forced, capacity);
+    opening::put_word(out, b"HELD\n");
+    let n = put_members(out, WORD + LINE, &marks[..slots]);
+    line::put_line(out, WORD, Fault::Placing as u32, n as u32, forced, capacity);
     WORD + LINE * (n + 1)
 }

@@ -1,24 +1,20 @@
 // The word that opens a listing, `PLAN` or `HELD`, and the refusal's listing.
-ghost use Rattle.std.specs.Prelude.{◌≡◌, [], ◌∷◌, ◌+◌, ◌≤◌, length};
-ghost use Rattle.line.specs.Layout.{newline, line_bytes};
+ghost use Rattle.std.specs.Prelude.{◌≡◌, ◌+◌, ◌≤◌, length};
+ghost use Rattle.line.specs.Layout.{line_bytes};
 ghost use Rattle.common.specs.Buffers.{put_at};
 ghost use Rattle.plan_lines.specs.Sizes.{word_bytes};
 ghost use Rattle.plan_lines.specs.Text.{refusal_text};
 ghost use Rattle.listing.specs.Opening.{Written};
 
-use line::layout::{LINE, NEWLINE};
+use line::layout::LINE;
 use plan_lines::sizes::WORD;
 
-// Writes a word of four letters and byte 10 at the front of out.
-pub fn put_word(out: &mut [u8], a: u8, b: u8, c: u8, d: u8)
+// Writes a word, its byte 10 with it, at the front of out.
+pub fn put_word(out: &mut [u8], word: &[u8; WORD])
     requires { word_bytes ≤ length out.old }
-    ensures { out.new ≡ put_at 0 (a ∷ b ∷ c ∷ d ∷ newline ∷ []) out.old }
+    ensures { out.new ≡ put_at 0 word.now out.old }
 {
-    out[0] = a;
-    out[1] = b;
-    out[2] = c;
-    out[3] = d;
-    out[4] = NEWLINE;
+    out[..WORD].copy_from_slice(word);
 }
 
 // Writes the listing of a refusal other than 12, and answers its length.
@@ -26,7 +22,7 @@ pub fn put_refusal(out: &mut [u8], number: u32, line: u32) -> usize
     requires { word_bytes + line_bytes ≤ length out.old }
     ensures { Written (refusal_text number line) out.old out.new result }
 {
-    put_word(out, b'H', b'E', b'L', b'D');
+    put_word(out, b"HELD\n");
     line::put_line(out, WORD, number, line, 0, 0);
     WORD + LINE
 }

@@ -10,9 +10,5 @@ pub fn put_words(out: &mut [u64], fed: &[u64; 96])
     requires { (placing_words ≤ length out.old) × (length fed.now ≡ placing_words) }
     ensures { out.new ≡ over fed.now out.old }
 {
-    let mut slot = 1;
-    while slot <= PLACING_WORDS {
-        out[slot - 1] = fed[slot - 1];
-        slot += 1;
-    }
+    out[..PLACING_WORDS].copy_from_slice(fed);
 }

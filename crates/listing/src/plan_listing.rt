@@ -4,6 +4,7 @@ ghost use Rattle.listing.specs.Opening.{Written};
 ghost use Rattle.listing.specs.PlanSteps.{plan_of, CanPutPlan};
 
 use crate::{bill_line, opening};
+use energy::CountedDay;
 use line::layout::LINE;
 use plan_lines::sizes::WORD;
 use plan_lines::{feed_lines, stretch_lines};
@@ -22,18 +23,22 @@ pub fn put_plan(
     requires { CanPutPlan out.old slots blowers wake counts.now numbers.now fed.now }
     ensures { Written (plan_text (plan_of slots blowers wake counts.now numbers.now fed.now)) out.old out.new result }
 {
-    opening::put_word(out, b'P', b'L', b'A', b'N');
+    let day = CountedDay {
+        counts: &counts[..slots],
+        wake,
+    };
+    opening::put_word(out, b"PLAN\n");
     let at = WORD + LINE;
-    let stretches = stretch_lines::put_stretches(out, at, slots, blowers, wake, counts);
-    let feedings = feed_lines::put_feedings(out, at + LINE * stretches, slots, numbers, fed);
+    let stretches = stretch_lines::put_stretches(out, at, &day, blowers);
+    let feedings = feed_lines::put_feedings(out, at + LINE * stretches, numbers, &fed[..slots]);
     let end = at + LINE * (stretches + feedings);
-    bill_line::put_bill(out, end, slots, blowers, wake, counts);
-    let day = energy::day_use(counts, slots, blowers, wake);
+    bill_line::put_bill(out, end, &day, blowers);
+    let used = energy::day_use(&day, blowers);
     line::put_line(
         out,
         WORD,
-        day.energy,
-        day.starts,
+        used.energy,
+        used.starts,
         stretches as u32,
         feedings as u32,
     );

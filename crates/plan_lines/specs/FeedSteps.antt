@@ -54,7 +54,7 @@ lines_of slots numbers words t k = flat_map (λ u. slot_lines u (zip_with (λ a 
 pub record CanPutFeedings (out : List ℕ) (at slots : ℕ) (numbers words : List ℕ) : Type 0 where
   pub day : slots ≤ 96
   pub tanks : length numbers ≡ fields * max_rations
-  pub long : length words ≡ 96
+  pub long : slots ≤ length words
   pub room : Room (feed_lines slots (tanks_of max_rations numbers) (placing_of slots max_rations words)) at out
 
 -- the feedings before slot t + 1 were put, and `parts` has their number for each ration

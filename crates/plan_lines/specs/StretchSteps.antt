@@ -1,130 +1,97 @@
 -- How the stretch lines are put: one stretch more, one blower more. Assumes nothing.
-use Rattle.std.specs.Prelude.{◌≡◌, ℕ, suc, ◌+◌, ◌-◌, ◌*◌, ◌≤◌, ◌<◌, length, take}
-use Rattle.std.proofs.Math.Path.{ap}
-use Rattle.std.proofs.Common.{◌∙◌, add-one, length-take-le}
-use mathlib.Core.List.{List, [], ◌∷◌, ◌++◌, map}
-use native.Mathlib.Omega.{arith}
-use Rattle.std.proofs.lemmas.List.{length-map}
+use Rattle.std.specs.Prelude.{◌≡◌, refl, List, [], ◌∷◌, ◌++◌, map, ℕ, suc, ◌+◌, ◌-◌, ◌*◌, ◌≤◌, ◌<◌, length}
+use Rattle.std.proofs.Common.{sym, ap, ◌∙◌, arith}
 use Rattle.common.specs.Lists.{range, flat_map}
 use Rattle.line.specs.Layout.{line_bytes}
 use Rattle.checks.specs.Limits.{max_blowers}
 use Rattle.line.specs.Line.{write_line}
 use Rattle.common.specs.Buffers.{put_at}
-use Rattle.method.specs.Intervals.{Interval, intervals, busy_in}
-use Rattle.method.specs.FrontRunLaws.{stretch, stretches_from}
-use Rattle.method.proofs.FrontRunLaws.{stretches_from_some, stretches_from_begin, stretches_from_end}
-use Rattle.energy.specs.Energy.{state, listed}
-use Rattle.energy.specs.Usage.{Day}
-use Rattle.energy.specs.StretchLaws.{Found}
-use Rattle.energy.specs.declared.Stretch.{Stretch}
-use Rattle.plan_lines.specs.Lines.{stretch_line, blower_lines, stretch_lines}
+use Rattle.method.specs.Intervals.{Interval, intervals}
+use Rattle.energy.specs.Listed.{ListedStretch}
+use Rattle.energy.specs.Energy.{listed, listed_for}
+use Rattle.plan_lines.specs.Lines.{Line, line, stretch_line, blower_lines, stretch_lines}
 use Rattle.plan_lines.specs.Putting.{Put, Putting, Room, putting_begin, putting_more, putting_room, putting_end, put_one}
 
 -- One blower -----------------------------------------------------------------------
 
-pub record CanPutBlower (out : List ℕ) (at slots k q : ℕ) (counts : List ℕ) : Type 0 where
-  pub counted : Day counts slots
-  pub room : Room (blower_lines q (take slots counts) k) at out
+-- the line of a listed stretch
+abbrev pub line_of : ListedStretch → Line
+line_of s = line s.blower s.first s.last s.state
 
--- of blower k the stretches before place `from` were put
-pub record BlowerPut (q : ℕ) (counts : List ℕ) (slots k from at : ℕ) (old new : List ℕ) (n : ℕ) : Type 0 where
-  pub in_day : from ≤ slots
-  pub putting : Putting (blower_lines q (take slots counts) k) (map (stretch_line slots q k) (stretches_from counts slots k from)) at old new n
+lines_listed : (d q k : ℕ) (vs : List Interval) → map (stretch_line d q k) vs ≡ map line_of (map (listed d q k) vs)
+unfolding stretch_line listed
+lines_listed d q k [] = refl
+lines_listed d q k (v ∷ vs) = ap (λ ls. stretch_line d q k v ∷ ls) (lines_listed d q k vs)
 
-module _ {q : ℕ} {counts : List ℕ} {slots k at : ℕ} {old : List ℕ} (can : CanPutBlower old at slots k q counts) where
-  pub blower_begin : BlowerPut q counts slots k 0 at old old 0
-  unfolding blower_lines
-  blower_begin =
-      record {
-        in_day = omega arith;
-        putting = putting_begin at old _ can.room _
-            (ap (λ d. map (stretch_line d q k) (intervals (take slots counts) k)) (length-take-le slots counts (omega (arith, can.counted.long, can.counted.day)))
-            ∙ ap (map (stretch_line slots q k)) (stretches_from_begin counts slots k));
-      }
+-- of blower k's stretches those before `rest` were put
+pub record BlowerPut (q : ℕ) (counts : List ℕ) (k at : ℕ) (old new : List ℕ) (n : ℕ) (rest : List ListedStretch) : Type 0 where
+  pub putting : Putting (blower_lines q counts k) (map line_of rest) at old new n
 
-  module _ {from n : ℕ} {new : List ℕ} (p : BlowerPut q counts slots k from at old new n) where
-    pub blower_room : from < slots → (at + line_bytes * n) + line_bytes ≤ length new
-    blower_room h =
-        omega (
-          arith,
-          stretches_from_some counts slots k from h (omega (arith, can.counted.long, can.counted.day)),
-          length-map (stretches_from counts slots k from) (stretch_line slots q k),
-          p.putting.number,
-          p.putting.same_length,
-          can.room,
-        )
+module _ {q : ℕ} {counts : List ℕ} {k at : ℕ} {old : List ℕ} (room : Room (blower_lines q counts k) at old) where
+  pub blower_begin : {rest : List ListedStretch} → rest ≡ listed_for q counts k → BlowerPut q counts k at old old 0 rest
+  unfolding blower_lines listed_for
+  blower_begin e =
+      record { putting = putting_begin at old _ room _ (lines_listed (length counts) q k (intervals counts k) ∙ ap (map line_of) (sym e)) }
 
-    pub blower_more : {s : Stretch} {new' : List ℕ} → Found q counts slots k from s
-        → new' ≡ put_at (at + line_bytes * n) (write_line s.blower s.first s.last s.state) new
-        → BlowerPut q counts slots k s.last at old new' (n + 1)
-    unfolding stretch_line listed
-    blower_more {s} {new'} f e =
-        record {
-          in_day = f.ends.within;
-          putting =
-              putting_more at old _ can.room (stretch_line slots q k v ∷ []) _ 1 p.putting
-              (ap (map (stretch_line slots q k)) f.ends.next)
-              (put_one (stretch_line slots q k v) (at + line_bytes * n) new new' (e ∙ ap put f.is));
-        }
-      where
-        v : Interval
-        v = stretch (from + 1) s.last (busy_in counts k from)
+  module _ {new : List ℕ} {n : ℕ} {rest : List ListedStretch} (p : BlowerPut q counts k at old new n rest) where
+    module _ {s : ListedStretch} {rest' : List ListedStretch} (e : rest ≡ s ∷ rest') where
+      pub blower_room : (at + line_bytes * n) + line_bytes ≤ length new
+      blower_room = omega (arith, putting_room at old _ room (line_of s ∷ []) (map line_of rest') p.putting (ap (map line_of) e))
 
-        put : Stretch → List ℕ
-        put x = put_at (at + line_bytes * n) (write_line x.blower x.first x.last x.state) new
+      pub blower_more : {x : ℕ} {new' : List ℕ} → x ≡ s.state → new' ≡ put_at (at + line_bytes * n) (write_line s.blower s.first s.last x) new
+          → BlowerPut q counts k at old new' (n + 1) rest'
+      blower_more {x} {new'} h f =
+          record {
+            putting = putting_more at old _ room (line_of s ∷ []) _ 1 p.putting (ap (map line_of) e)
+                (put_one (line_of s) (at + line_bytes * n) new new' (f ∙ ap (λ y. put_at (at + line_bytes * n) (write_line s.blower s.first s.last y) new) h));
+          }
 
-    pub blower_end : slots ≤ from → Put (blower_lines q (take slots counts) k) at old new n
-    blower_end h = putting_end at old _ can.room p.putting none
-      where
-        last : from ≡ slots
-        last = omega (arith, p.in_day)
-
-        none : map (stretch_line slots q k) (stretches_from counts slots k from) ≡ []
-        none = rw (last, stretches_from_end counts slots k)
+    pub blower_end : rest ≡ [] → Put (blower_lines q counts k) at old new n
+    blower_end e = putting_end at old _ room p.putting (ap (map line_of) e)
 
 -- All blowers ----------------------------------------------------------------------
 
-pub record CanPutStretches (out : List ℕ) (at slots m q : ℕ) (counts : List ℕ) : Type 0 where
-  pub counted : Day counts slots
+pub record CanPutStretches (out : List ℕ) (at m q : ℕ) (counts : List ℕ) : Type 0 where
   pub few : m ≤ max_blowers
-  pub room : Room (stretch_lines m q (take slots counts)) at out
+  pub room : Room (stretch_lines m q counts) at out
 
--- the stretches of `done` blowers were put
-pub record StretchesPut (q : ℕ) (counts : List ℕ) (slots m done at : ℕ) (old new : List ℕ) (n : ℕ) : Type 0 where
-  pub in_range : done ≤ m
-  pub putting : Putting (stretch_lines m q (take slots counts)) (flat_map (blower_lines q (take slots counts)) (range (suc done) (m - done))) at old new n
+-- the stretches of the blowers before b were put
+pub record StretchesPut (q : ℕ) (counts : List ℕ) (m b at : ℕ) (old new : List ℕ) (n : ℕ) : Type 0 where
+  pub putting : Putting (stretch_lines m q counts) (flat_map (blower_lines q counts) (range b (m + 1 - b))) at old new n
 
-module _ (q : ℕ) (counts : List ℕ) (slots m at : ℕ) (old : List ℕ) (can : CanPutStretches old at slots m q counts) where
-  pub stretches_begin : StretchesPut q counts slots m 0 at old old 0
+module _ {q : ℕ} {counts : List ℕ} {m at : ℕ} {old : List ℕ} (can : CanPutStretches old at m q counts) where
+  pub stretches_begin : StretchesPut q counts m 1 at old old 0
   unfolding stretch_lines
   stretches_begin =
-      record {
-        in_range = omega arith;
-        putting = putting_begin at old _ can.room _ (ap (λ n. flat_map (blower_lines q (take slots counts)) (range 1 n)) (all m));
-      }
+      record { putting = putting_begin at old _ can.room _ (ap (λ n. flat_map (blower_lines q counts) (range 1 n)) (all m)) }
     where
-      all : (n : ℕ) → n ≡ n - 0
+      all : (n : ℕ) → n ≡ n + 1 - 1
       all n = omega arith
 
-  module _ (done n : ℕ) (new : List ℕ) (p : StretchesPut q counts slots m done at old new n) where
+  module _ {b n : ℕ} {new : List ℕ} (p : StretchesPut q counts m b at old new n) where
     -- the lines of one blower more, and the others
-    next : done < m
-        → flat_map (blower_lines q (take slots counts)) (range (suc done) (m - done))
-        ≡ blower_lines q (take slots counts) (done + 1) ++ flat_map (blower_lines q (take slots counts)) (range (suc (done + 1)) (m - (done + 1)))
-    next h = ap (λ k. flat_map (blower_lines q (take slots counts)) (range (suc done) k)) left ∙ rw (← add-one done)
+    next : b ≤ m
+        → flat_map (blower_lines q counts) (range b (m + 1 - b))
+        ≡ blower_lines q counts b ++ flat_map (blower_lines q counts) (range (b + 1) (m + 1 - (b + 1)))
+    next h =
+        ap (λ k. flat_map (blower_lines q counts) (range b k)) left
+        ∙ ap (λ c. blower_lines q counts b ++ flat_map (blower_lines q counts) (range c (m + 1 - (b + 1)))) (after b)
       where
-        left : m - done ≡ suc (m - (done + 1))
+        left : m + 1 - b ≡ suc (m + 1 - (b + 1))
         left = omega arith
 
-    pub stretches_can : done < m → CanPutBlower new (at + line_bytes * n) slots (done + 1) q counts
-    stretches_can h = record { counted = can.counted; room = putting_room at old _ can.room (blower_lines q (take slots counts) (done + 1)) (flat_map (blower_lines q (take slots counts)) (range (suc (done + 1)) (m - (done + 1)))) p.putting (next h) }
+        after : (n : ℕ) → suc n ≡ n + 1
+        after n = omega arith
 
-    pub stretches_more : (r : ℕ) (new' : List ℕ) → done < m → Put (blower_lines q (take slots counts) (done + 1)) (at + line_bytes * n) new new' r
-        → StretchesPut q counts slots m (done + 1) at old new' (n + r)
-    stretches_more r new' h s = record { in_range = omega arith; putting = putting_more at old _ can.room _ _ r p.putting (next h) s }
+    pub stretches_room : b ≤ m → Room (blower_lines q counts b) (at + line_bytes * n) new
+    stretches_room h = putting_room at old _ can.room (blower_lines q counts b) _ p.putting (next h)
 
-    pub stretches_end : m ≤ done → Put (stretch_lines m q (take slots counts)) at old new n
-    stretches_end h = putting_end at old _ can.room p.putting (ap (λ k. flat_map (blower_lines q (take slots counts)) (range (suc done) k)) none)
+    pub stretches_more : {r : ℕ} {new' : List ℕ} → b ≤ m → Put (blower_lines q counts b) (at + line_bytes * n) new new' r
+        → StretchesPut q counts m (b + 1) at old new' (n + r)
+    stretches_more {r} h s = record { putting = putting_more at old _ can.room _ _ r p.putting (next h) s }
+
+    pub stretches_end : m < b → Put (stretch_lines m q counts) at old new n
+    stretches_end h = putting_end at old _ can.room p.putting (ap (λ k. flat_map (blower_lines q counts) (range b k)) none)
       where
-        none : m - done ≡ 0
+        none : m + 1 - b ≡ 0
         none = omega arith

@@ -1,7 +1,7 @@
 // The feed lines of a plan, by slot, then blower: slot, blower, tank, part.
 //
 // Bit j of word t says whether ration j + 1 is fed in slot t + 1. In a slot the lines go from set bit to set bit: rations in sheet order, blowers 1, 2, ..
-ghost use Rattle.std.specs.Prelude.{◌+◌, ◌<◌};
+ghost use Rattle.std.specs.Prelude.{◌+◌, ◌<◌, length};
 ghost use Rattle.checks.specs.Limits.{max_rations};
 ghost use Rattle.plan_lines.specs.Lines.{feed_lines};
 ghost use Rattle.plan_lines.specs.Inputs.{tanks_of, placing_of};
@@ -17,12 +17,8 @@ fn add_parts(parts: &mut [u32; 64], word: u64)
     requires { CanAddParts parts.old }
     ensures { PartsAdded word parts.old parts.new }
 {
-    let mut rest = word;
-    while rest != 0 {
-        let j = bits::lowest(rest);
-        let i = j as usize;
-        parts[i] += 1;
-        rest = bits::drop_bit(rest, j);
+    for j in bits::set_bits(word) {
+        parts[j as usize] += 1;
     }
 }
 
@@ -57,9 +53,7 @@ fn put_slot(
     ensures { Put (word_lines slot numbers.now parts.now 1 (set_bits 0 64 word)) at out.old out.new result }
 {
     let mut n = 0;
-    let mut rest = word;
-    while rest != 0 {
-        let j = bits::lowest(rest);
+    for j in bits::set_bits(word) {
         put_feeding(
             out,
             at + LINE * n,
@@ -69,31 +63,23 @@ fn put_slot(
             numbers,
             parts,
         );
-        rest = bits::drop_bit(rest, j);
         n += 1;
     }
     n
 }
 
-// Writes the feed lines of all slots from a place of out on, and answers how many. It costs a step for each slot and each feeding.
-pub fn put_feedings(
-    out: &mut [u8],
-    at: usize,
-    slots: usize,
-    numbers: &[u32; 256],
-    fed: &[u64; 96],
-) -> usize
-    requires { CanPutFeedings out.old at slots numbers.now fed.now }
-    ensures { Put (feed_lines slots (tanks_of max_rations numbers.now) (placing_of slots max_rations fed.now)) at out.old out.new result }
+// Writes the feed lines of all slots, which have a word each, from a place of out on, and answers how many. It costs a
+// step for each slot and each feeding.
+pub fn put_feedings(out: &mut [u8], at: usize, numbers: &[u32; 256], fed: &[u64]) -> usize
+    requires { CanPutFeedings out.old at (length fed.now) numbers.now fed.now }
+    ensures { Put (feed_lines (length fed.now) (tanks_of max_rations numbers.now) (placing_of (length fed.now) max_rations fed.now)) at out.old out.new result }
 {
     let mut parts = [0u32; 64];
     let mut n = 0;
-    let mut t = 0;
-    while t < slots {
-        let word = fed[t];
+    for (t, word) in fed.iter().enumerate() {
+        let word = *word;
         add_parts(&mut parts, word);
         n += put_slot(out, at + LINE * n, t as u32 + 1, word, numbers, &parts);
-        t += 1;
     }
     n
 }

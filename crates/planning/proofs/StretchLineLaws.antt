@@ -13,7 +13,7 @@ use Rattle.method.specs.Keeping.{with_no_slots, stretches}
 use Rattle.method.proofs.Cases.{le_or_lt}
 use Rattle.method.proofs.IntervalLaws.{interval_longest}
 use Rattle.energy.specs.Energy.{at_end, state, listed, listed_for}
-use Rattle.energy.specs.declared.Stretch.{Stretch}
+use Rattle.energy.specs.Listed.{ListedStretch}
 use Rattle.bill.specs.Bill.{blower_charge, charge}
 use Rattle.plan_lines.specs.Lines.{Line, stretch_line, blower_lines, stretch_lines}
 use Rattle.planning.specs.ReadListing.{stretch_on, stretches_on, billed, charge_on}
@@ -62,7 +62,7 @@ module _ (q : ℕ) (counts : List ℕ) where
     where
       go : (vs : List Interval) → map billed (map (stretch_line (length counts) q j) vs) ≡ map (listed (length counts) q j) vs
       go [] = refl
-      go (v ∷ vs) = ap (λ (xs : List Stretch). listed (length counts) q j v ∷ xs) (go vs)
+      go (v ∷ vs) = ap (λ (xs : List ListedStretch). listed (length counts) q j v ∷ xs) (go vs)
 
   blower_same : (k : ℕ) → keep (λ l. eqb l.a k) (blower_lines q counts k) ≡ blower_lines q counts k
   blower_same k = keep_all (λ l. eqb l.a k) (blower_lines q counts k) (λ l m. eq-eqb l.a k (of_blower k l m))

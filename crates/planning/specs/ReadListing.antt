@@ -10,7 +10,7 @@ use Rattle.schedules.specs.Schedules.{Schedule}
 use Rattle.method.specs.Intervals.{Interval}
 use Rattle.planning.specs.declared.Planned.{Planned}
 use Rattle.plan_lines.specs.Sizes.{word_bytes}
-use Rattle.energy.specs.declared.Stretch.{Stretch}
+use Rattle.energy.specs.Listed.{ListedStretch}
 use Rattle.bill.specs.Bill.{blower_charge}
 use Rattle.plan_lines.specs.Lines.{Line, line}
 
@@ -71,7 +71,7 @@ unfoldable pub bill_on : List Line → Line
 bill_on ls = get_or ls (1 + (head_line ls).c + (head_line ls).d) (line 0 0 0 0)
 
 -- what the bill takes of a stretch line: blower, first, last, state
-unfoldable pub billed : Line → Stretch
+unfoldable pub billed : Line → ListedStretch
 billed l = record { blower = l.a; first = l.b; last = l.c; state = l.d }
 
 -- the day's charge, from the stretch lines of each blower

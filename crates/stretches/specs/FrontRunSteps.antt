@@ -9,8 +9,7 @@ use Rattle.method.proofs.FrontRunLaws.{busy_from_cons, ends_at_front_run}
 
 -- the counts of a day's slots, and a place in the day
 pub record CanScan (counts : List ℕ) (slots from : ℕ) : Type 0 where
-  pub long : length counts ≡ 96
-  pub day : slots ≤ 96
+  pub long : slots ≤ length counts
   pub in_day : from < slots
 
 -- the stretch that begins after place `from` goes on to place `end` at least

@@ -1,37 +1,20 @@
 -- `bill::tallies::blower_charge` meets its contract. What is in the tally before a stretch, with what is left, is all. Assumes nothing.
-use Prim.Native.Nat.{◌-◌}
-use native.Mathlib.Omega.{arith}
-use Rattle.energy.specs.StretchLaws.{found}
-use Rattle.bill.proofs.TallySteps.{tallied_to_begin, tallied_to_can, tallied_to_more, tallied_to_end}
+use Rattle.std.proofs.Common.{ap, ◌∙◌}
+use Rattle.energy.specs.Left.{left}
+use Rattle.bill.proofs.TallySteps.{tallied_begin, tallied_can, tallied_more, tallied_end}
 use Rattle.bill.proofs.tallies.blower_charge.Goals as goal
 
-pub loop-from-init : goal.loop-from-init
-loop-from-init c = tallied_to_begin c.requires
+pub loop-stretch-init : goal.loop-stretch-init
+loop-stretch-init c =
+    (tt, tt, tallied_begin (ap left c.into_iter-stretch-iterator.ensures.into_iter_gives ∙ c.stretches-stretch-items.ensures))
 
-pub stretch_at-stretch-requires : goal.stretch_at-stretch-requires
-stretch_at-stretch-requires c = (c.requires.counted, c.loop-from-test.true)
+pub add_stretch-requires : goal.add_stretch-requires
+add_stretch-requires c =
+    tallied_can c.loop-stretch.invariant.2 c.in-Some.ensures.steps c.in-Some.stretch.of_a_day.1 c.requires c.args.day.now.in_day
 
-pub with_stretch-tally-requires : goal.with_stretch-tally-requires
-with_stretch-tally-requires c = tallied_to_can c.requires c.loop-from.invariant
-    (found c.requires.counted c.loop-from-test.true c.stretch_at-stretch.ensures)
-
-pub loop-from-smaller : goal.loop-from-smaller
-loop-from-smaller c = omega (
-  arith,
-  (found
-      c.requires.counted
-      c.loop-from-test.true
-      c.stretch_at-stretch.ensures).ends.after,
-  c.loop-from-test.true,
-)
-
-pub loop-from-preserved : goal.loop-from-preserved
-loop-from-preserved c = tallied_to_more c.requires c.loop-from.invariant
-    (found
-    c.requires.counted
-    c.loop-from-test.true
-    c.stretch_at-stretch.ensures)
-    c.with_stretch-tally.ensures
+pub loop-stretch-preserved : goal.loop-stretch-preserved
+loop-stretch-preserved c =
+    (tt, tt, tallied_more c.loop-stretch.invariant.2 c.in-Some.ensures.steps c.in-Some.stretch.of_a_day.1 c.add_stretch.ensures)
 
 pub returns : goal.returns
-returns c = tallied_to_end c.requires c.loop-from.invariant c.loop-from-test.false
+returns c = tallied_end c.loop-stretch.invariant.2 c.in-None.ensures.steps.0

@@ -3,8 +3,8 @@
 use Rattle.cause_lines.specs.SlotLaws.{SlotsPut}
 use Rattle.cause_lines.proofs.slot_lines.put_slots.Given as goal
 
-abbrev pub invariant-loop-rest : goal.invariant-loop-rest
-invariant-loop-rest l = SlotsPut l.from l.word l.at l.initial.out l.out l.n l.rest
-
-abbrev pub decreases-loop-rest : goal.decreases-loop-rest
-decreases-loop-rest l = l.rest
+abbrev pub invariant-loop-j : goal.invariant-loop-j
+invariant-loop-j l =
+    (goal.iterator-loop-j).can_next l.j-iterator
+    × (goal.iterator-loop-j).is_finite l.j-iterator
+    × SlotsPut l.from l.word l.at l.initial.out l.out l.n l.j-iterator.rest

@@ -1,44 +1,32 @@
--- `energy::usage::day_use` meets its contract. What some blowers use, with what the others use, is all. Assumes nothing.
-use Prim.Native.Nat.{◌-◌}
-use native.Mathlib.Omega.{arith}
-use Rattle.energy.specs.UsageSteps.{used_by_begin, used_by_more, used_by_end, charge_le}
+-- `energy::usage::day_use` meets its contract. Assumes nothing.
+use Rattle.std.specs.Prelude.{◌≤◌, ◌*◌}
+use Rattle.std.proofs.Common.{arith}
+use Rattle.checks.specs.Limits.{max_wake}
+use Rattle.energy.specs.Energy.{energy}
+use Rattle.energy.specs.Usage.{day_use}
+use Rattle.energy.specs.UsageSteps.{energy_few}
 use Rattle.energy.proofs.usage.day_use.Goals as goal
+use Rattle.energy.proofs.usage.day_use.Goals.{After-blowers_use-used}
 
-pub loop-done-init : goal.loop-done-init
-loop-done-init c = used_by_begin c.args.blowers c.args.wake c.args.counts.now c.args.slots c.requires.counted
-
-pub overflow_add-done : goal.overflow_add-done
-overflow_add-done c = omega (arith, c.requires.few, c.loop-done-test.true)
-
-pub blower_use-used-requires : goal.blower_use-used-requires
-blower_use-used-requires c = c.requires.counted
-
-pub overflow_add-on : goal.overflow_add-on
-overflow_add-on c = omega (arith, (used_by_more c.args.blowers c.args.wake c.args.counts.now c.args.slots c.requires.counted c.loop-done.done c.loop-done.on c.loop-done.starts c.loop-done.invariant _ c.loop-done-test.true c.blower_use-used.ensures).on_few, c.requires.few, c.loop-done-test.true)
-
-pub overflow_add-starts : goal.overflow_add-starts
-overflow_add-starts c = omega (arith, (used_by_more c.args.blowers c.args.wake c.args.counts.now c.args.slots c.requires.counted c.loop-done.done c.loop-done.on c.loop-done.starts c.loop-done.invariant _ c.loop-done-test.true c.blower_use-used.ensures).starts_few, c.requires.few, c.loop-done-test.true)
-
-pub overflow_add-done-in-loop-done : goal.overflow_add-done-in-loop-done
-overflow_add-done-in-loop-done c = omega (arith, c.requires.few, c.loop-done-test.true)
-
-pub loop-done-smaller : goal.loop-done-smaller
-loop-done-smaller c = omega (arith, c.loop-done-test.true)
-
-pub loop-done-preserved : goal.loop-done-preserved
-loop-done-preserved c = used_by_more c.args.blowers c.args.wake c.args.counts.now c.args.slots c.requires.counted c.loop-done.done c.loop-done.on c.loop-done.starts c.loop-done.invariant _ c.loop-done-test.true c.blower_use-used.ensures
+-- on slots, starts and energy are few
+few : (c : After-blowers_use-used)
+    → (c.blowers_use-used.result.on ≤ 768) × (c.blowers_use-used.result.starts ≤ 384) × (c.args.day.now.wake * c.blowers_use-used.result.starts ≤ max_wake * 384)
+few c =
+    rw (c.blowers_use-used.ensures.on, c.blowers_use-used.ensures.starts)
+    (energy_few _ _ c.args.day.now.counts.now c.requires c.args.day.now.in_day)
 
 pub overflow_mul-result : goal.overflow_mul-result
-overflow_mul-result c = omega (arith, charge_le c.requires c.loop-done.invariant)
+overflow_mul-result c = omega (arith, few (goal.at.overflow_mul-result c).After-blowers_use-used)
 
 pub overflow_add-result : goal.overflow_add-result
-overflow_add-result c = omega (arith, charge_le c.requires c.loop-done.invariant)
+overflow_add-result c = omega (arith, few (goal.at.overflow_add-result c).After-blowers_use-used)
 
 pub overflow_cast-result-2 : goal.overflow_cast-result-2
-overflow_cast-result-2 c = omega (arith, charge_le c.requires c.loop-done.invariant)
+overflow_cast-result-2 c = omega (arith, few (goal.at.overflow_cast-result-2 c).After-blowers_use-used)
 
 pub overflow_cast-result-3 : goal.overflow_cast-result-3
-overflow_cast-result-3 c = omega (arith, charge_le c.requires c.loop-done.invariant)
+overflow_cast-result-3 c = omega (arith, few (goal.at.overflow_cast-result-3 c).After-blowers_use-used)
 
 pub returns : goal.returns
-returns c = used_by_end c.args.blowers c.args.wake c.args.counts.now c.args.slots c.requires.counted c.loop-done.done c.loop-done.on c.loop-done.starts c.loop-done.invariant c.loop-done-test.false
+unfolding day_use energy
+returns c = rw (c.blowers_use-used.ensures.on, c.blowers_use-used.ensures.starts)

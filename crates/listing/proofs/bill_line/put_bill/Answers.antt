@@ -1,5 +1,4 @@
 -- `listing::bill_line::put_bill` meets its contract. Assumes nothing.
-use lib.ListN.{take}
 use Rattle.listing.specs.PlanSteps.{bill_put}
 use Rattle.listing.proofs.bill_line.put_bill.Goals as goal
 
@@ -10,4 +9,4 @@ pub put_line-requires : goal.put_line-requires
 put_line-requires c = c.requires.room
 
 pub returns : goal.returns
-returns c = bill_put c.args.blowers c.args.wake (take c.args.slots c.args.counts.now) _ _ c.args.at c.args.out.now _ c.day_charge-tenths.ensures c.amount_of-amount.ensures c.put_line.ensures
+returns c = bill_put _ _ _ _ _ _ _ _ c.day_charge-tenths.ensures c.amount_of-amount.ensures c.put_line.ensures

@@ -1,23 +1,11 @@
 -- `listing::opening::put_word` meets its contract. Assumes nothing.
-use native.Mathlib.Omega.{arith}
-use lib.ListN.{length-set}
-use Rattle.listing.specs.Opening.{put_five}
+use Rattle.std.specs.Prelude.{◌≡◌, drop, ◌++◌, ◌+◌, length}
+use Rattle.std.proofs.Common.{ap, ◌∙◌, arith}
+use Rattle.common.specs.Buffers.{put_at}
 use Rattle.listing.proofs.opening.put_word.Goals as goal
 
-pub bounds-out-1 : goal.bounds-out-1
-bounds-out-1 c = simp length-set (omega arith)
-
-pub bounds-out-2 : goal.bounds-out-2
-bounds-out-2 c = simp length-set (omega arith)
-
-pub bounds-out-3 : goal.bounds-out-3
-bounds-out-3 c = simp length-set (omega arith)
-
-pub bounds-out-4 : goal.bounds-out-4
-bounds-out-4 c = simp length-set (omega arith)
-
-pub shape_of-out : goal.shape_of-out
-shape_of-out c = simp length-set
-
 pub returns : goal.returns
-returns c = put_five _ _ _ _ _ _ c.requires
+unfolding put_at
+returns c =
+    let size : 5 ≡ 0 + length c.args.word.now = omega (arith, c.told-word) in
+    ap (λ w. w ++ drop 5 c.args.out.now) c.copy_from_slice.ensures.after ∙ ap (λ n. c.args.word.now ++ drop n c.args.out.now) size

@@ -3,8 +3,8 @@
 use Rattle.plan_lines.specs.FeedSteps.{AddingParts}
 use Rattle.plan_lines.proofs.feed_lines.add_parts.Given as goal
 
-abbrev pub invariant-loop-rest : goal.invariant-loop-rest
-invariant-loop-rest l = AddingParts l.word l.rest l.initial.parts l.parts
-
-abbrev pub decreases-loop-rest : goal.decreases-loop-rest
-decreases-loop-rest l = l.rest
+abbrev pub invariant-loop-j : goal.invariant-loop-j
+invariant-loop-j l =
+    (goal.iterator-loop-j).can_next l.j-iterator
+    × (goal.iterator-loop-j).is_finite l.j-iterator
+    × AddingParts l.word l.j-iterator.rest l.initial.parts l.parts

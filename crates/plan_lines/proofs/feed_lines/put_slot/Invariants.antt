@@ -3,8 +3,8 @@
 use Rattle.plan_lines.specs.FeedSteps.{SlotPut}
 use Rattle.plan_lines.proofs.feed_lines.put_slot.Given as goal
 
-abbrev pub invariant-loop-rest : goal.invariant-loop-rest
-invariant-loop-rest l = SlotPut l.slot l.word l.numbers l.parts l.at l.initial.out l.out l.n l.rest
-
-abbrev pub decreases-loop-rest : goal.decreases-loop-rest
-decreases-loop-rest l = l.rest
+abbrev pub invariant-loop-j : goal.invariant-loop-j
+invariant-loop-j l =
+    (goal.iterator-loop-j).can_next l.j-iterator
+    × (goal.iterator-loop-j).is_finite l.j-iterator
+    × SlotPut l.slot l.word l.numbers l.parts l.at l.initial.out l.out l.n l.j-iterator.rest
