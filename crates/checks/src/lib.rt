@@ -7,7 +7,6 @@
 
 mod faults;
 pub mod limits;
-pub mod refusals;
 mod values;
 
 pub use faults::Fault;

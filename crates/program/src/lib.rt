@@ -8,10 +8,14 @@
 ghost use Rattle.std.specs.Prelude.{◌≡◌};
 ghost use Rattle.program.specs.Program.{output_of, explanation_of, made_sheet_of};
 
-use checks::refusals::{BAD_FORM, NO_PLACING};
+use checks::Fault;
 use listing::opening;
 use plan_lines::sizes::{CAUSES_BYTES, PLAN_BYTES};
 use practice::sizes::PRACTICE_BYTES;
+
+const NO_PLACING: u32 = Fault::Placing as u32;
+
+const BAD_FORM: u32 = Fault::Form as u32;
 
 // The planner's whole output for an input, in the first `length` bytes; the others are 0.
 #[derive(Drop)]
