@@ -18,9 +18,12 @@ put_line-requires c =
     (lowest_some c.in-Some.ensures.steps.0) _ c.in-Some.ensures.steps.0
 
 pub loop-j-preserved : goal.loop-j-preserved
-loop-j-preserved c =
-    (tt, tt, slots_more c.args.from c.args.word c.args.at c.args.out.now c.requires c.loop-j.n c.loop-j.j-iterator.rest c.loop-j.out c.loop-j.invariant.2
-    (lowest_some c.in-Some.ensures.steps.0) _ c.in-Some.ensures.steps.0 _ _ c.in-Some.ensures.steps.1 c.put_line.ensures)
+loop-j-preserved c = (
+  tt,
+  tt,
+  slots_more c.args.from c.args.word c.args.at c.args.out.now c.requires c.loop-j.n c.loop-j.j-iterator.rest c.loop-j.out c.loop-j.invariant.2
+      (lowest_some c.in-Some.ensures.steps.0) _ c.in-Some.ensures.steps.0 _ _ c.in-Some.ensures.steps.1 c.put_line.ensures,
+)
 
 pub returns : goal.returns
 returns c =
