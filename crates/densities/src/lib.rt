@@ -28,7 +28,8 @@ fn density_of(volume: u32, span: u32) -> u32
     (SCALE * volume + (span - 1)) / span
 }
 
-// Adds so many parts, a ration's density, in each slot of its window.
+// Adds so many parts, a ration's density, in each slot of its window. `placing` marks windows by a loop like this one,
+// over words and by bits: a function over both would be handed all but the `for`.
 fn add_density(sums: &mut [u32; SLOTS], release: usize, deadline: usize, parts: u32)
     requires { CanAdd sums.old release deadline parts }
     ensures { Added parts release deadline sums.old sums.new }

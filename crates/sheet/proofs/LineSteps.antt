@@ -1,7 +1,7 @@
 -- How the search for a faulty line goes on by one field and by one line, and where a line's fields stand in the sheet. Assumes nothing.
 use Rattle.std.specs.Prelude.{◌≡◌, refl, Bool, Some, None, true, false, ◌||◌, not, List, eqb, length, get_or, take, drop, set}
 use Rattle.std.proofs.Math.Path.{sym, ap}
-use Rattle.std.proofs.Common.{◌∙◌, add-one, take-add, take-take, drop_at, drop-drop, length-take-le, get_or-take, eqb-true, ne_eqb}
+use Rattle.std.proofs.Common.{◌∙◌, add-one, take-add, take-take, drop_at, drop-drop, length-take-le, get_or-take, eq-eqb, eqb-true, ne_eqb}
 use Rattle.std.proofs.lemmas.Bool.{eqb-false}
 use Rattle.std.proofs.Math.Bool.{cond}
 use Prim.Native.Nat.{ℕ, zero, suc, ◌+◌, ◌-◌, ◌*◌, ◌≤◌, ◌<◌}
@@ -69,9 +69,15 @@ module _ (s : List ℕ) (i : ℕ) (h : line_bytes * i + line_bytes ≤ length s)
       ∙ ap (λ x. is_faulty (parse x) || faulty_from (line_at s i) (f + 1) (fields - (f + 1))) (sym (field_place f l) ∙ ap (λ n. take width (drop n s)) (sym e))
       ∙ ap (λ b. b || faulty_from (line_at s i) (f + 1) (fields - (f + 1))) t
 
-  pub closing : (f : ℕ) → f ≡ fields → faulty_from (line_at s i) f (fields - f) ≡ not (eqb (get_or s (line_bytes * i + width * fields) 0) newline)
+  closing : (f : ℕ) → f ≡ fields → faulty_from (line_at s i) f (fields - f) ≡ not (eqb (get_or s (line_bytes * i + width * fields) 0) newline)
   unfolding faulty_from
   closing f e = rw (e, closing_place)
+
+  pub closing_hit : (f at : ℕ) → f ≡ fields → at ≡ line_bytes * i + width * fields → (get_or s at 0 ≡ newline → ⊥) → faulty_from (line_at s i) f (fields - f) ≡ true
+  closing_hit f at e p n = closing f e ∙ ap not (ap (λ x. eqb (get_or s x 0) newline) (sym p) ∙ ne_eqb (get_or s at 0) newline n)
+
+  pub closing_miss : (f at : ℕ) → f ≡ fields → at ≡ line_bytes * i + width * fields → get_or s at 0 ≡ newline → faulty_from (line_at s i) f (fields - f) ≡ false
+  closing_miss f at e p n = closing f e ∙ ap not (ap (λ x. eqb (get_or s x 0) newline) (sym p) ∙ eq-eqb (get_or s at 0) newline n)
 
 -- ---- one line more
 

@@ -2,38 +2,36 @@
 ghost use Rattle.std.specs.Prelude.{◌≡◌, ◌+◌, ◌*◌, ◌≤◌, ◌<◌, length};
 ghost use Rattle.common.specs.Buffers.{put_at};
 ghost use Rattle.line.specs.Layout.{line_bytes};
-ghost use Rattle.line.specs.Line.{faulty_line};
 ghost use Rattle.checks.specs.Checks.{first_faulty};
-ghost use Rattle.checks.specs.Sheet.{line_at, job_at, job_numbers};
+ghost use Rattle.checks.specs.Sheet.{job_at, job_numbers};
 ghost use Rattle.sheet.specs.Parts.{some_line, CanPutNumbers};
 
 use line::layout::{FIELDS, LINE, NEWLINE, WIDTH};
 
-// Whether a line holds a faulty field, or its closing byte is missing.
-fn is_faulty(s: &[u8], line: usize) -> bool
-    requires { line_bytes * line + line_bytes ≤ length s.now }
-    ensures { result ≡ faulty_line (line_at s.now line) }
-{
-    let at = LINE * line;
-    for field in 0..FIELDS {
-        if line::field_faulty(s, at + WIDTH * field) {
-            return true;
-        }
-    }
-    s[at + WIDTH * FIELDS] != NEWLINE
-}
-
-// The first of the lines that is faulty, counted from 1.
+// The first of the lines that holds a faulty field, counted from 1. A missing closing byte counts as one. The first
+// fault leaves the loop over lines by its label, with the line as its value: the form that the specification names for
+// this check (docs/specification.md, section 16), which no `for` has.
 pub fn first_faulty(s: &[u8], lines: usize) -> Option<usize>
     requires { line_bytes * lines ≤ length s.now }
     ensures { result ≡ some_line (first_faulty s.now 0 lines) }
 {
-    for line in 0..lines {
-        if is_faulty(s, line) {
-            return Some(line + 1);
+    let mut line = 0;
+    let found = 'lines: loop {
+        if line == lines {
+            break 'lines None;
         }
-    }
-    None
+        let at = LINE * line;
+        for field in 0..FIELDS {
+            if line::field_faulty(s, at + WIDTH * field) {
+                break 'lines Some(line + 1);
+            }
+        }
+        if s[at + WIDTH * FIELDS] != NEWLINE {
+            break 'lines Some(line + 1);
+        }
+        line += 1;
+    };
+    found
 }
 
 // Puts the four numbers of a line into flat numbers, from a place on.
