@@ -1,6 +1,6 @@
-// The method, slot by slot, with the cause of each stretch's end. The steps go as those of `stretches::settle`, and stand
-// here again: these write an entry between two slots and stop once the listing is cut, and what they promise is the
-// listing; one generic pair would take both promises and all that is lent for either.
+// The method, slot by slot, with the cause of each stretch's end. The steps go as those of `stretches::settle`, and
+// stand here again: these write an entry between two slots and stop once the listing is cut, and what they promise is
+// the listing; one generic pair would take both promises and all that is lent for either.
 ghost use Rattle.std.specs.Prelude.{false, ◌≤◌, ◌<◌};
 ghost use Rattle.stretches.specs.Settling.{SomeSlot};
 ghost use Rattle.endings.specs.Steps.{KeptOrCause, StepTaken};

@@ -1,8 +1,8 @@
 // The calls for a caller who has the rations as a lent slice of records, not as a sheet's bytes.
 //
 // Each call takes the records apart into flat numbers, at most one more than a sheet may have, reads these as a sheet,
-// and hands what was read to the function that the call on a sheet's bytes hands its own to. So it answers what that call
-// answers to the sheet that these records make (specs/Records.antt); the checks 1 and 2, which are about a sheet's
+// and hands what was read to the function that the call on a sheet's bytes hands its own to. So it answers what that
+// call answers to the sheet that these records make (specs/Records.antt); the checks 1 and 2, which are about a sheet's
 // bytes, have nothing to look at.
 //
 // C callers reach these calls through `records_c`, which exports each again under its name: a library exports nothing.
