@@ -23,23 +23,18 @@ fn order_of_rations(i: u32, numbers: &[u32; 256], j: u32, others: &[u32; 256]) -
 pub fn order_in_slot(word: u64, numbers: &[u32; 256], other: u64, others: &[u32; 256]) -> Ordering
     ensures { as_order result ≡ order_of_tanks (tanks_of_word numbers.now word) (tanks_of_word others.now other) }
 {
-    let mut rest = word;
-    let mut other_rest = other;
-    while rest != 0 {
-        if other_rest == 0 {
+    let mut other_bits = bits::set_bits(other);
+    for i in bits::set_bits(word) {
+        let Some(j) = other_bits.next() else {
             return Ordering::Greater;
-        }
-        let i = bits::lowest(rest);
-        let j = bits::lowest(other_rest);
+        };
         let order = order_of_rations(i, numbers, j, others);
         if order.is_ne() {
             return order;
         }
-        rest = bits::drop_bit(rest, i);
-        other_rest = bits::drop_bit(other_rest, j);
     }
-    if other_rest != 0 {
-        return Ordering::Less;
+    match other_bits.next() {
+        Some(_) => Ordering::Less,
+        None => Ordering::Equal,
     }
-    Ordering::Equal
 }

@@ -3,8 +3,8 @@
 use Rattle.plan_order.proofs.SlotSteps.{Comparing}
 use Rattle.plan_order.proofs.slots.order_in_slot.Given as goal
 
-abbrev pub invariant-loop-rest : goal.invariant-loop-rest
-invariant-loop-rest l = Comparing l.numbers l.others l.word l.other l.rest l.other_rest
-
-abbrev pub decreases-loop-rest : goal.decreases-loop-rest
-decreases-loop-rest l = l.rest
+abbrev pub invariant-loop-i : goal.invariant-loop-i
+invariant-loop-i l =
+    (goal.iterator-loop-i).can_next l.i-iterator
+    × (goal.iterator-loop-i).is_finite l.i-iterator
+    × Comparing l.numbers l.others l.word l.other l.i-iterator.rest l.other_bits.rest
