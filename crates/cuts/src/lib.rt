@@ -3,7 +3,7 @@
 // A share is a number of hundredths from 0 to 100. Of each ration volume × share / 100 is left, rounded down, and one
 // of which nothing is left stays on the sheet. Where a share has a sound placing every smaller one has, so that the
 // greatest lies between two ends that are moved towards each other (specs/Cuts.antt, specs/Theorems.antt). For the
-// layers above: both functions ask for the reading of a sheet that no check refused.
+// layers above: both functions ask for a sheet that no check refused.
 #![tactic(auto)]
 
 mod cutting;
