@@ -10,7 +10,7 @@ mod calls;
 
 pub use calls::{plan, plan_both, plan_number, plan_placing};
 
-// for the layers above: they ask for a reading
+// for the layers above: they take what was read, or an accepted sheet
 pub use calls::{day_of, plan_both_of, plan_of, plan_under};
 
 // What a planning call answers: the length is that of the listing written, 0 where none is.
