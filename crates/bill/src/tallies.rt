@@ -72,7 +72,8 @@ fn blower_charge(day: &CountedDay<'_>, blower: u32) -> u32
     tally.charge
 }
 
-// The day's charge in tenths of a cent: the tallies of all blowers, from 1 on. It costs two passes over the slots for each blower.
+// The day's charge in tenths of a cent: the tallies of all blowers, from 1 on. It costs two passes over the slots for
+// each blower.
 pub fn day_charge(day: &CountedDay<'_>, blowers: u32) -> u32
     requires { CanCharge blowers day.now.wake }
     ensures { result ≡ charge blowers day.now.wake day.now.counts.now }

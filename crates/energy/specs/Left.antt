@@ -1,9 +1,9 @@
--- The stretches that are left on the way over a blower's stretches. Definitions only. Assumes nothing.
+-- The stretches of a blower that are left. Definitions only. Assumes nothing.
 use Rattle.std.specs.Prelude.{List, map, ℕ, length}
 use Rattle.method.specs.FrontRunLaws.{stretches_from}
 use Rattle.energy.specs.Listed.{ListedStretch}
 use Rattle.energy.specs.Energy.{listed}
-use Rattle.energy.specs.declared.walk.Stretches.{Stretches}
+use Rattle.energy.specs.declared.iterating.Stretches.{Stretches}
 
 -- those that begin after slot `from`
 abbrev pub left : Stretches → List ListedStretch

@@ -7,14 +7,14 @@
 #![tactic(auto)]
 
 mod day;
+mod iterating;
 mod stretch;
 mod usage;
-mod walk;
 
 pub use day::CountedDay;
+pub use iterating::Stretches;
 pub use stretch::{State, Stretch};
 pub use usage::day_use;
-pub use walk::Stretches;
 
 // On slots and starts, of a blower or of all.
 #[derive(Clone, Copy)]

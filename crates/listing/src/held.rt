@@ -37,7 +37,8 @@ fn put_members(out: &mut [u8], at: usize, marks: &[u8]) -> usize
     n
 }
 
-// Writes the listing of a held sheet, whose set of slots is marked, and answers its length.
+// Writes the listing of a held sheet, whose set of slots is marked, and answers its length. The marks come as a day of
+// crate `stretches` holds them, in an array of 96 (fixed memory); only here they are cut to the day's slots.
 pub fn put_held(out: &mut [u8], slots: usize, marks: &[u8; 96], forced: u32, capacity: u32) -> usize
     requires { CanPutHeld out.old slots marks.now }
     ensures { Written (held_text (set_of slots marks.now) forced capacity) out.old out.new result }

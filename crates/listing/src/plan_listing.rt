@@ -9,8 +9,10 @@ use line::layout::LINE;
 use plan_lines::sizes::WORD;
 use plan_lines::{feed_lines, stretch_lines};
 
-// Writes the listing of a plan, and answers its length. Bit j of word t says whether ration j + 1 is fed in slot t + 1, and its tank is number 4 * j.
-// It costs four passes over the slots for each blower, and a step for each slot and each feeding.
+// Writes the listing of a plan, and answers its length. Bit j of word t says whether ration j + 1 is fed in slot t + 1,
+// and its tank is number 4 * j. Counts and words come as a day of crate `stretches` holds them, in arrays of 96 (fixed
+// memory); only here they are cut to the day's slots. It costs four passes over the slots for each blower, and a step
+// for each slot and each feeding.
 pub fn put_plan(
     out: &mut [u8],
     slots: usize,

@@ -1,6 +1,7 @@
 // The feed lines of a plan, by slot, then blower: slot, blower, tank, part.
 //
-// Bit j of word t says whether ration j + 1 is fed in slot t + 1. In a slot the lines go from set bit to set bit: rations in sheet order, blowers 1, 2, ..
+// Bit j of word t says whether ration j + 1 is fed in slot t + 1. In a slot the lines go from set bit to set bit:
+// rations in sheet order, blowers 1, 2, ..
 ghost use Rattle.std.specs.Prelude.{◌+◌, ◌<◌, length};
 ghost use Rattle.checks.specs.Limits.{max_rations};
 ghost use Rattle.plan_lines.specs.Lines.{feed_lines};
@@ -40,7 +41,8 @@ fn put_feeding(
     line::put_line(out, at, slot, blower, tank, part);
 }
 
-// Writes the feed lines of one slot from a place of out on, and answers how many.
+// Writes the feed lines of one slot from a place of out on, and answers how many. n is counted here, since it is the
+// answer too.
 fn put_slot(
     out: &mut [u8],
     at: usize,

@@ -26,7 +26,8 @@ fn put_blower(out: &mut [u8], at: usize, day: &CountedDay<'_>, blower: u32) -> u
     n
 }
 
-// Writes the stretch lines of all blowers from a place of out on, and answers how many. It costs one pass over the slots for each blower.
+// Writes the stretch lines of all blowers from a place of out on, and answers how many. It costs one pass over the
+// slots for each blower.
 pub fn put_stretches(out: &mut [u8], at: usize, day: &CountedDay<'_>, blowers: u32) -> usize
     requires { CanPutStretches out.old at blowers day.now.wake day.now.counts.now }
     ensures { Put (stretch_lines blowers day.now.wake day.now.counts.now) at out.old out.new result }

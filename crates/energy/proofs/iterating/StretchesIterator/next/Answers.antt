@@ -1,13 +1,13 @@
--- `energy::walk::Stretches::next` meets its contract. Assumes nothing.
+-- `energy::iterating::Stretches::next` meets its contract. Assumes nothing.
 use Rattle.std.specs.Prelude.{◌≡◌, [], ◌∷◌}
 use Rattle.std.proofs.Common.{arith, ap, length}
 use Rattle.energy.specs.StretchLaws.{Found, found, left_next, left_end}
 use Rattle.energy.specs.Listed.{listing_of}
 use Rattle.energy.specs.Left.{left}
-use Rattle.energy.proofs.walk.StretchesIterator.next.Goals as goal
-use Rattle.energy.proofs.walk.StretchesIterator.next.Goals.{After-stretch_at-stretch}
+use Rattle.energy.proofs.iterating.StretchesIterator.next.Goals as goal
+use Rattle.energy.proofs.iterating.StretchesIterator.next.Goals.{After-stretch_at-stretch}
 
--- the stretch found begins where the way has come to
+-- the stretch found begins after the last one
 begins : (c : After-stretch_at-stretch)
     → Found c.args.self.now.day.wake c.args.self.now.day.counts.now (length c.args.self.now.day.counts.now) c.args.self.now.blower c.args.self.now.from (listing_of c.stretch_at-stretch.result)
 begins c =

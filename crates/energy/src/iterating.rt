@@ -1,4 +1,4 @@
-// The way over a blower's stretches, from each to the next.
+// A blower's stretches, one after another.
 ghost use Rattle.std.specs.Prelude.{◌≤◌, length};
 
 use crate::{CountedDay, Stretch};
