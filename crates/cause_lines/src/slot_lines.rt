@@ -62,6 +62,7 @@ pub fn put_slots(out: &mut [u8], at: usize, from: u32, word: u64) -> usize
     requires { CanPutSlots out.old at from word }
     ensures { Put (bit_lines from word) at out.old out.new result }
 {
+    // counted, since it is the answer too
     let mut n = 0;
     for j in bits::set_bits(word) {
         line::put_line(out, at + LINE * n, from + j + 1, 0, 0, 0);

@@ -8,8 +8,8 @@ use crate::settling;
 use cause_lines::Extent;
 use placing::{Words, held, windows};
 
-// Lists the causes of a day of so many slots and blowers from the front of out on; None of a held day, for which nothing
-// is written.
+// Lists the causes of a day of so many slots and blowers from the front of out on; None of a held day, for which
+// nothing is written.
 pub fn list_day(
     slots: usize,
     blowers: u8,

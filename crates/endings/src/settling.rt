@@ -10,7 +10,8 @@ use crate::Progress;
 use cause_lines::{CausedStretch, Extent};
 use placing::{Cause, Words};
 
-// Keeps blower k idle or busy in slot t + 1, as `stretches::keep` does, or says why it can't be.
+// Keeps blower k idle or busy in slot t + 1, as `stretches::keep` does and by the flag for its reason, or says why it
+// can't be.
 fn keep_or_cause(words: &mut Words, t: usize, k: u8, is_busy: bool) -> Result<(), Cause>
     requires { SomeSlot t words.old × (1 ≤ k) }
     ensures { KeptOrCause result k is_busy t words.old words.new }

@@ -1,6 +1,6 @@
 // The call that plans halls: hall after hall by thin functions, so that every hall's answer and buffers are an equation
-// of their own; what is used so far goes from one to the next. The halls are parameters of their own and no slice, since
-// `kiwimound_plan_halls` hands over what C lends it for each.
+// of their own; what is used so far goes from one to the next. The halls are parameters of their own and no slice,
+// since `kiwimound_plan_halls` hands over what C lends it for each.
 ghost use Rattle.std.specs.Prelude.{◌≡◌, IfOk};
 ghost use Rattle.common.specs.Buffers.{padded};
 ghost use Rattle.checks.specs.Limits.{max_slots};
@@ -50,8 +50,8 @@ fn plan_hall(
     }
 }
 
-// A hall that is there is planned; one that is not is left as it was lent. A function of its own, since what a hall uses
-// after an `if` within `plan_halls` is lost to the proof of the next one.
+// A hall that is there is planned; one that is not is left as it was lent. A function of its own, since what a hall
+// uses after an `if` within `plan_halls` is lost to the proof of the next one.
 fn plan_hall_if(
     there: bool,
     limit: u8,

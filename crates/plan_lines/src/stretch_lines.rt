@@ -11,6 +11,7 @@ fn put_blower(out: &mut [u8], at: usize, day: &CountedDay<'_>, blower: u32) -> u
     requires { Room (blower_lines day.now.wake day.now.counts.now blower) at out.old }
     ensures { Put (blower_lines day.now.wake day.now.counts.now blower) at out.old out.new result }
 {
+    // counted, since it is the answer too
     let mut n = 0;
     for stretch in day.stretches(blower) {
         line::put_line(

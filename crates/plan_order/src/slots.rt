@@ -19,7 +19,8 @@ fn order_of_rations(i: u32, numbers: &[u32; 256], j: u32, others: &[u32; 256]) -
     x.cmp(&y)
 }
 
-// The order of the tanks fed by one word and of those fed by another. No tank is looked at after the first that differs.
+// The order of the tanks fed by one word and of those fed by another. No tank is looked at after the first that
+// differs.
 pub fn order_in_slot(word: u64, numbers: &[u32; 256], other: u64, others: &[u32; 256]) -> Ordering
     ensures { as_order result ≡ order_of_tanks (tanks_of_word numbers.now word) (tanks_of_word others.now other) }
 {

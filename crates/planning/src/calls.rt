@@ -1,5 +1,5 @@
-// The planning calls. Each over a sheet's bytes reads them and hands what was read, an accepted sheet or its refusal, to
-// the function that plans it; the calls on records hand over what they read themselves.
+// The planning calls. Each over a sheet's bytes reads them and hands what was read, an accepted sheet or its refusal,
+// to the function that plans it; the calls on records hand over what they read themselves.
 ghost use Rattle.std.specs.Prelude.{◌≡◌, false, is_err, ◌||◌, ◌≤◌, length, replicate};
 ghost use Rattle.common.specs.Buffers.{padded};
 ghost use Rattle.checks.specs.Limits.{max_slots};
@@ -100,7 +100,7 @@ fn list_day(sheet: &FeedSheet, day: &Result<DayPlan, HeldDay>, out: &mut [u8]) -
 }
 
 // The number of a day: it was planned, or held for want of blowers. A held day is no refusal here: its listing is
-// written too.
+// written too. No `From` may stand here: the types are those of other crates.
 fn number_of(day: &Result<DayPlan, HeldDay>) -> u32
     ensures { result ≡ NumberOf (is_err day.now) }
 {

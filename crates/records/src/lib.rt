@@ -32,8 +32,8 @@ pub struct Ration {
     pub volume: u32,
 }
 
-// The first rations of a slice as flat numbers, four for each, in its order. One more is taken than a sheet may have: it shows that there are too many.
-// 0 past the last.
+// The first rations of a slice as flat numbers, four for each, in its order. One more is taken than a sheet may have:
+// it shows that there are too many. 0 past the last.
 #[derive(Drop)]
 struct Flat {
     pub count: usize,

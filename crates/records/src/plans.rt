@@ -7,8 +7,8 @@ ghost use Rattle.records.specs.Records.{record_sheet, record_faults};
 use crate::{Ration, readings};
 use planning::Planned;
 
-// Plans the day of a record for each ration, with a plan buffer lent: what `planning::plan` answers and writes for the sheet that these records make, and nothing
-// written on any refusal but 12.
+// Plans the day of a record for each ration, with a plan buffer lent: what `planning::plan` answers and writes for the
+// sheet that these records make, and nothing written on any refusal but 12.
 #[unsafe(no_mangle)]
 pub extern "C" fn kiwimound_plan_rations(
     slots: u32,

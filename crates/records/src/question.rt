@@ -6,7 +6,8 @@ ghost use Rattle.records.specs.Records.{record_sheet, record_faults};
 use crate::{Ration, readings};
 use questions::BoundsAnswer;
 
-// The bounds question on the day of a record for each ration: what `questions::bounds` answers to the sheet that these records make.
+// The bounds question on the day of a record for each ration: what `questions::bounds` answers to the sheet that these
+// records make.
 #[unsafe(no_mangle)]
 pub extern "C" fn kiwimound_bounds_rations(
     slots: u32,

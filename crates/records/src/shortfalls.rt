@@ -6,7 +6,8 @@ ghost use Rattle.records.specs.Records.{record_sheet, record_faults};
 use crate::{Ration, readings};
 use questions::ShortfallAnswer;
 
-// The shortfall of the marked slots of the day of a record for each ration: what `questions::shortfall` answers to the sheet that these records make.
+// The shortfall of the marked slots of the day of a record for each ration: what `questions::shortfall` answers to the
+// sheet that these records make.
 #[unsafe(no_mangle)]
 pub extern "C" fn kiwimound_shortfall_rations(
     slots: u32,

@@ -6,8 +6,9 @@ ghost use Rattle.records.specs.Records.{record_sheet, record_faults};
 use crate::{Ration, readings};
 use sheet::Written;
 
-// Writes a sheet from its head line's numbers and a record for each ration: number 0 and the length of the sheet, whose bytes stand at the front of `out`;
-// or the number and the line of the first refusal, and `out` as it was. Bytes of `out` after the sheet keep their values.
+// Writes a sheet from its head line's numbers and a record for each ration: number 0 and the length of the sheet, whose
+// bytes stand at the front of `out`; or the number and the line of the first refusal, and `out` as it was. Bytes of
+// `out` after the sheet keep their values.
 #[unsafe(no_mangle)]
 pub extern "C" fn kiwimound_write_rations(
     slots: u32,
