@@ -7,8 +7,8 @@ const ROOM: usize = 66000;
 // No stream has as many cases; the bound lets the loop over them end.
 const CASES: u32 = 100000;
 
-// Takes the next case, its payload into the room; nothing at the end of the stream, which is operation E, and also where
-// the stream ends without one or the payload is longer than the room.
+// Takes the next case, its payload into the room; nothing at the end of the stream, which is operation E, and also
+// where the stream ends without one or the payload is longer than the room.
 fn next_case(room: &mut [u8]) -> Option<Case<'_>> {
     let mut header = [0u8; 16];
     let got = io::read_full(0, &mut header);

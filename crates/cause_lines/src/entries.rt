@@ -8,7 +8,8 @@ use line::layout::LINE;
 use placing::Cause;
 use plan_lines::sizes::CAUSES_BYTES;
 
-// The cause's number. The enum is of the crate `placing`, so that no `impl From<Cause> for u32` may stand here.
+// The cause's number, for the line of an entry alone: a `From` in the crate `placing`, whose enum it is, would be this
+// `match` in another place.
 fn number_of(cause: Cause) -> u32
     ensures { result ≡ number_of cause }
 {

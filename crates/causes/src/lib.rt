@@ -8,7 +8,8 @@ mod calls;
 
 pub use calls::list_causes;
 
-// What the call answers: the length of the listing written, and whether it was cut; 0 and no on every refusal.
+// What the call answers: the length of the listing written, and whether it was cut; 0 and no on every refusal. C reads
+// it (`kiwimound_causes`).
 #[repr(C)]
 #[derive(Clone, Copy)]
 pub struct CausesAnswer {

@@ -12,8 +12,8 @@ mod values;
 pub use faults::Fault;
 pub use values::{head_refusal, rations_refusal, value_refusal};
 
-// A refusal's number and the line that it names; 0 and 0 where nothing is refused. The number is no `Fault` here, because
-// C reads it, and the definitions (`first_refusal`) and their theorems speak of it.
+// A refusal's number and the line that it names; 0 and 0 where nothing is refused. The number is no `Fault` here: it
+// goes into the answers that C reads, and the definitions (`first_refusal`) and their theorems speak of it.
 #[derive(Clone, Copy, PartialEq, Eq)]
 pub struct Refusal {
     pub number: u32,

@@ -6,7 +6,8 @@ mod comparing;
 
 pub use comparing::compare;
 
-// What a comparison answers: `order` is 0 (no) on a refusal, otherwise 1 (same), 2 (before) or 3 (after).
+// What a comparison answers: `order` is 0 (no) on a refusal, otherwise 1 (same), 2 (before) or 3 (after). C reads it
+// (`kiwimound_compare`).
 #[repr(C)]
 #[derive(Clone, Copy)]
 pub struct Compared {

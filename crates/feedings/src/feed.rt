@@ -2,7 +2,7 @@
 // words hold one placing of what is left; a cell that is decided is in neither word any more. `high` has the load of
 // each slot. `may` has the rations that can still be fed in slot t, and perhaps others: most answers need no search.
 //
-// `may`, the slot and the ration stay parameters beside the words: a struct of them would hold the words' loan, and
+// `may`, the slot and the ration stay parameters beside the words: a struct of them would hold the borrowed words, and
 // what is said of `may` fails between the writes of an exchange, so that no ghost field could say it.
 ghost use Rattle.std.specs.Prelude.{◌≡◌, ◌<◌, eqb, position};
 ghost use Rattle.common.specs.Bits.{bit};

@@ -12,7 +12,7 @@ pub use calls::plan_halls;
 use planning::Planned;
 
 // What planning halls answers: number and line of the call, 0 or 14 and 0, and for each of four halls its own answer,
-// zeros where it is not there.
+// zeros where it is not there. C reads it (`kiwimound_plan_halls`).
 #[repr(C)]
 #[derive(Clone, Copy)]
 pub struct HallsPlanned {

@@ -7,8 +7,8 @@ ghost use Rattle.line.specs.Line.{write_line};
 use crate::fields;
 use crate::layout::{FIELDS, NEWLINE, WIDTH};
 
-// Writes a line of four numbers at a place of out. A loop over the four is no plainer: a call for each shows what stands
-// where.
+// Writes a line of four numbers at a place of out. A loop over the four is no plainer: a call for each shows what
+// stands where.
 pub fn put_line(out: &mut [u8], at: usize, a: u32, b: u32, c: u32, d: u32)
     requires { at + line_bytes ≤ length out.old }
     ensures { out.new ≡ put_at at (write_line a b c d) out.old }

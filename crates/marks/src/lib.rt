@@ -22,8 +22,8 @@ pub fn is_faulty(slots: usize, marks: &[u8]) -> bool
     marks.len() != slots || !are_marks(marks)
 }
 
-// The marks counted from slot 1 on: place t has how many of the slots 1 to t are marked, and 0 past the day's last slot.
-// One pass over the marks serves every window of the set.
+// The marks counted from slot 1 on: place t has how many of the slots 1 to t are marked, and 0 past the day's last
+// slot. One pass over the marks serves every window of the set.
 pub fn counts_before(marks: &[u8]) -> [u32; 97]
     requires { length marks.now ≤ max_slots }
     ensures { result ≡ counts_before marks.now }

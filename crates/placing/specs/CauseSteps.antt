@@ -288,8 +288,8 @@ module _ {F R H C : List ℕ} {t k : ℕ} where
           ∙ sym (excess_obstacle s.windows low high s.lows s.highs (represents_feasible s) (raised low t k) (long_b s m e) e (ordered_b s m e))
 
       -- fewer than k rations have the slot in their windows
-      pub busy_narrow_no : Ready F R H C t → width F R t < k → Busied false F R H C F' R' C' t k
-      busy_narrow_no ready n =
+      pub busied_narrow : Ready F R H C t → width F R t < k → Busied false F R H C F' R' C' t k
+      busied_narrow ready n =
           let a = busied_search hi lo (raised_narrow ready.rest {S = S'} n) in
           record {
             answer = a.answer;
@@ -311,3 +311,18 @@ busied_yes {F} {R} {H} {C} {F'} {R'} {C'} {t} {k} b x = record { busied = subst 
 pub busied_no : {r : Bool} {F R H C F' R' C' : List ℕ} {t k : ℕ} {c : Cause} → Busied r F R H C F' R' C' t k → r ≡ false
     → BusyCaused c F R H C t k → BusyAnswered (Err c) F R H C F' R' C' t k
 busied_no {F} {R} {H} {C} {F'} {R'} {C'} {t} {k} b x why = record { busied = subst (λ y. Busied y F R H C F' R' C' t k) x b; why = why }
+
+module _ {F R H C : List ℕ} {t k : ℕ} (hi : k ≤ at H t) (lo : width F R t < at C t + k) where
+  -- fewer than k rations have the slot in their windows
+  pub busy_narrow_no : {F' R' C' S' : List ℕ} → ExcessMarked F R C F' R' C' S' t k → Ready F R H C t → width F R t < k → {c : Cause} → OfMarks c 2 S'
+      → BusyAnswered (Err c) F R H C F' R' C' t k
+  busy_narrow_no w ready n o = busied_no (busied_narrow hi lo w ready n) refl (marked_cause hi lo w o)
+
+  module _ {r : Bool} {F' R' C' S' : List ℕ} (v : Raised r F R C F' R' C' S' t k) where
+    -- the low is set
+    pub busy_search_yes : r ≡ true → BusyAnswered (Ok tt) F R H C F' R' C' t k
+    busy_search_yes x = busied_yes (busied_search hi lo v) x
+
+    -- it can't be
+    pub busy_search_no : r ≡ false → k ≤ width F R t → {c : Cause} → OfMarks c 2 S' → BusyAnswered (Err c) F R H C F' R' C' t k
+    busy_search_no x wide o = busied_no (busied_search hi lo v) x (busy_search_cause hi lo v x wide o)

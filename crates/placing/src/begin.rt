@@ -21,10 +21,10 @@ impl Words {
         }
     }
 
-    // Places every ration within the highs, and says whether that can be done. Bit j of `windows[t]` says that slot t is
-    // in the window of ration j, `volumes[j]` in how many slots it is to be fed. Where it can't be done, the marks are
-    // left on the slots contained in every set of greatest shortfall. A search is made only for a feeding that does not
-    // fit straight away, and none is repeated from a slot where one failed.
+    // Places every ration within the highs, and says whether that can be done. Bit j of `windows[t]` says that slot t
+    // is in the window of ration j, `volumes[j]` in how many slots it is to be fed. Where it can't be done, the marks
+    // are left on the slots contained in every set of greatest shortfall. A search is made only for a feeding that does
+    // not fit straight away, and none is repeated from a slot where one failed.
     pub fn begin(&mut self, windows: &[u64; 96], volumes: &[u8; 64], high: &[u8; 96]) -> bool
         requires { CanBegin windows.now volumes.now high.now self.old.spare }
         ensures { BegunIn result windows.now volumes.now high.now self.new }
@@ -36,10 +36,10 @@ impl Words {
         within
     }
 
-    // Whether every ration can be placed within the highs, of the same windows with other volumes, from whatever placing
-    // with the volumes `old` the words hold: only what is more or less of each ration is fed or taken out, and a search
-    // moves the rest where it must, which is for the cost and not promised. Where it can't be done, the marks are left
-    // on slots that show why, and the words hold a placing with these volumes all the same.
+    // Whether every ration can be placed within the highs, of the same windows with other volumes, from whatever
+    // placing with the volumes `old` the words hold: only what is more or less of each ration is fed or taken out, and
+    // a search moves the rest where it must, which is for the cost and not promised. Where it can't be done, the marks
+    // are left on slots that show why, and the words hold a placing with these volumes all the same.
     pub fn begin_again(&mut self, old: &[u8; 64], volumes: &[u8; 64]) -> bool
         requires { CanBeginAgain old.now volumes.now self.old.high self.old.fed self.old.rest }
         ensures { BegunAgainIn result old.now volumes.now self.old self.new }

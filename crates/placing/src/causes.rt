@@ -1,6 +1,6 @@
 // Questions about one slot as in steps.rt, where a refusal says why: the cause of a stretch's end. The slots of a cause
-// are those that the search which failed has marked. A plan asks `idle` and `busy`, which gather no cause: these two ask
-// no less and add the slots, so neither pair is written by the other.
+// are those that the search which failed has marked. `idle` and `busy` stand beside these two and are not made of them:
+// a plan asks two questions for each blower and slot, and would gather 96 marks at each refusal for no one.
 ghost use Rattle.std.specs.Prelude.{◌≡◌, ◌+◌, ◌^◌, ◌≤◌, ◌<◌, ltb, length};
 ghost use Rattle.theory.specs.SumsOver.{pick};
 ghost use Rattle.grid.specs.Grid.{at};

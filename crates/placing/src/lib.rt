@@ -9,11 +9,11 @@
 // The public modules are for the layers above.
 #![tactic(auto)]
 
-pub mod begin;
-pub mod causes;
+mod begin;
+mod causes;
 pub mod feasibility;
 pub mod held;
-pub mod steps;
+mod steps;
 pub mod windows;
 
 // Why no sound placing exists with a bound that was asked for. A set of slots is two words: bit t of the first says
@@ -30,8 +30,8 @@ pub enum Cause {
 
 // Words that hold a placing of a day's rations under a low and a high for each slot. A layer above makes them, lends
 // them from one question to the next, and reads no more of them than the definitions of specs/ say. The index is the
-// slot, from 0; bit j of a word is for ration j, from 0. What they hold stands in the contracts and in no invariant: new
-// words hold no placing, and those of a held day none that is sound.
+// slot, from 0; bit j of a word is for ration j, from 0. What they hold stands in the contracts and in no invariant:
+// new words hold no placing, and those of a held day none that is sound.
 #[derive(Drop)]
 pub struct Words {
     // the rations that are fed in the slot

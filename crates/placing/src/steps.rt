@@ -10,7 +10,7 @@ use loads::relief;
 
 impl Words {
     // Whether the low of slot t is k or more: its rations less the spare.
-    pub fn has_low(&self, t: usize, k: u8) -> bool
+    pub(crate) fn has_low(&self, t: usize, k: u8) -> bool
         requires { t < 96 }
         ensures { result ≡ leb (at self.now.spare t + k) (width self.now.fed self.now.rest t) }
     {

@@ -1,4 +1,5 @@
-// The bounds question: `B number line yes`. The lists are numbers, one a line: how many lows there are, the lows, the highs.
+// The bounds question: `B number line yes`. The lists are numbers, one a line: how many lows there are, the lows, the
+// highs.
 use std::io;
 
 pub fn answer(rt: &HostRuntime, lists: &[u8], sheet: &[u8]) -> io::Result<()> {

@@ -1,4 +1,5 @@
-// Answers a stream of cases on standard input by the calls of the crate `questions`, for comparison with the answers of a second implementation.
+// Answers a stream of cases on standard input by the calls of the crate `questions`, for comparison with the answers of
+// a second implementation.
 //
 // A payload has two parts: the lists, as long as the case's number says, and the sheet.
 // Operation S asks for the shortfall of marked slots, B whether a sound placing exists under bounds.

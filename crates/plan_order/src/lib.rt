@@ -14,8 +14,9 @@ mod slots;
 pub use days::order_of_days;
 use std::cmp::Ordering;
 
-// What a comparison answers, said of the first of two sheets. The calls give its number. Own words and not std's
-// `Option<Ordering>`, since theorems name them and their numbers (`answer_numbers`, and `compare_order` of `demands`).
+// What a comparison answers, said of the first of two sheets. The calls give its number. It is not std's
+// `Option<Ordering>`, since theorems name its cases and their numbers (`answer_numbers`, and `compare_order` of
+// `demands`).
 #[derive(Clone, Copy, PartialEq, Eq)]
 pub enum Order {
     // a sheet is refused

@@ -13,7 +13,8 @@ pub use calls::{plan, plan_both, plan_number, plan_placing};
 // for the layers above: they take what was read, or an accepted sheet
 pub use calls::{day_of, plan_both_of, plan_of, plan_under};
 
-// What a planning call answers: the length is that of the listing written, 0 where none is.
+// What a planning call answers: the length is that of the listing written, 0 where none is. A number with the values
+// beside it, since C reads it (`kiwimound_plan`).
 #[repr(C)]
 #[derive(Clone, Copy)]
 pub struct Planned {

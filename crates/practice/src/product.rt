@@ -1,5 +1,6 @@
 // The product of two numbers of 32 bits, with what passes 32 bits dropped. The specification has it made of
-// `wrapping_add_u32`, a step for each binary digit (docs/specification.md, section 16), and so it is not `wrapping_mul`.
+// `wrapping_add_u32`, a step for each binary digit (docs/specification.md, section 16), and so it is not
+// `wrapping_mul`.
 ghost use Rattle.std.specs.Prelude.{◌≡◌, ◌*◌, ◌%◌, ◌^◌};
 
 // x times y, modulo 2^32, in a step for each binary digit of x: y is doubled for the next digit, and added where the

@@ -15,8 +15,8 @@ pub use shortfalls::shortfall;
 pub use question::bounds_of;
 pub use shortfalls::{shortfall_of, shortfall_on};
 
-// What `shortfall` answers: forced minus capacity, below zero where capacity is spare; 0 on a refusal. A number with the
-// value beside it, since C reads it (`kiwimound_shortfall`).
+// What `shortfall` answers: forced minus capacity, below zero where capacity is spare; 0 on a refusal. A number with
+// the value beside it, since C reads it (`kiwimound_shortfall`).
 #[repr(C)]
 #[derive(Clone, Copy)]
 pub struct ShortfallAnswer {

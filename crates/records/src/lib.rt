@@ -33,7 +33,7 @@ pub struct Ration {
 }
 
 // The first rations of a slice as flat numbers, four for each, in its order. One more is taken than a sheet may have:
-// it shows that there are too many. 0 past the last.
+// it shows that there are too many. 0 past the last. An array with its count: memory is fixed here.
 #[derive(Drop)]
 struct Flat {
     pub count: usize,

@@ -10,7 +10,7 @@ mod calls;
 pub use calls::plan_share;
 
 // What planning a share answers: the length is that of the listing written, the share a number from 1 to 100; both are
-// 0 on a refusal.
+// 0 on a refusal. C reads it (`kiwimound_plan_share`).
 #[repr(C)]
 #[derive(Clone, Copy)]
 pub struct SharePlanned {

@@ -1,8 +1,9 @@
 // An accepted sheet.
 ghost use Rattle.sheet.specs.Accepted.{IsAccepted, is_accepted_prop};
 
-// The numbers of a sheet that no check refused. Whoever has one needs to ask nothing more of it.
-#[derive(Drop)]
+// The numbers of a sheet that no check refused: a function that takes one requires nothing more of it. The flat numbers
+// stay beside the count of rations, as the specification has them (docs/specification.md, section 16), in fixed memory.
+#[derive(Clone, Copy)]
 pub struct FeedSheet {
     pub slots: u32,
     pub blowers: u32,

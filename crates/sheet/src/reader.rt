@@ -101,16 +101,13 @@ pub fn read(b: &[u8]) -> Reading
     Reading::from(read_sheet(b))
 }
 
-// Flat numbers in an array, 0 past them. Copied one by one: after `copy_from_slice` into a part of the array the goal
-// `returns` did not close.
+// Flat numbers in an array, 0 past them.
 fn padded_numbers(numbers: &[u32]) -> [u32; 256]
     requires { length numbers.now ≤ fields * max_rations }
     ensures { result ≡ padded (fields * max_rations) numbers.now }
 {
     let mut padded = [0u32; 256];
-    for (i, number) in numbers.iter().enumerate() {
-        padded[i] = *number;
-    }
+    padded[..numbers.len()].copy_from_slice(numbers);
     padded
 }
 

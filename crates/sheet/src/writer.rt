@@ -81,9 +81,10 @@ pub fn write_of(sheet: Result<FeedSheet, Refusal>, out: &mut [u8]) -> Written
     Written::from(put_sheet(sheet, out))
 }
 
-// Writes a sheet from its head line's numbers and the flat numbers of its rations, four for each: tank, first slot, last
-// slot, volume, as `kiwimound_write` lends them. Number 0 and the length of the sheet, whose bytes stand at the front of
-// out; or the number and the line of the first refusal, and out as it was. Bytes of out after the sheet keep their values.
+// Writes a sheet from its head line's numbers and the flat numbers of its rations, four for each: tank, first slot,
+// last slot, volume, as `kiwimound_write` lends them. Number 0 and the length of the sheet, whose bytes stand at the
+// front of out; or the number and the line of the first refusal, and out as it was. Bytes of out after the sheet keep
+// their values.
 pub fn write(
     slots: u32,
     blowers: u32,

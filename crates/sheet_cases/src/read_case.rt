@@ -3,8 +3,8 @@
 use sheet::Reading;
 use std::io;
 
-// Writes the sheet's numbers into a buffer of the sheet's own length: `W number line length same`, the last 1 where both
-// hold the same bytes, else 0.
+// Writes the sheet's numbers into a buffer of the sheet's own length: `W number line length same`, the last 1 where
+// both hold the same bytes, else 0.
 fn write_back(
     rt: &HostRuntime,
     sheet: &[u8],

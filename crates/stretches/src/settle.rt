@@ -5,8 +5,8 @@ ghost use Rattle.stretches.specs.Settling.{SomeSlot, SomeDay, Kept, Stepped, Set
 use placing::Words;
 
 // Keeps blower k idle or busy in slot t + 1, if a sound placing exists with that, and says whether one does. Crate
-// `endings` settles by it too. The flag is a fact of the blower, which goes from slot to slot, and no method in its
-// place would be: the next slot needs to know what the blower does.
+// `endings` settles by it too. `is_busy` is no switch for a closure to replace: it is the state that `step` takes from
+// the slot before and answers for the next one.
 pub fn keep(words: &mut Words, t: usize, k: u8, is_busy: bool) -> bool
     requires { SomeSlot t words.old × (1 ≤ k) }
     ensures { Kept result k is_busy t words.old words.new }

@@ -2,7 +2,7 @@
 use Rattle.std.proofs.Common.{refl, arith}
 use Rattle.loads.specs.MarkLaws.{marked_held}
 use Rattle.placing.specs.StepLaws.{busied_search}
-use Rattle.placing.specs.CauseSteps.{busy_narrow_no, marked_cause, busy_search_cause}
+use Rattle.placing.specs.CauseSteps.{busied_narrow, marked_cause, busy_search_cause}
 use Rattle.placing.proofs.Words.raise_or_mark.Goals as goal
 
 pub returns-then-width-k : goal.returns-then-width-k
@@ -11,7 +11,7 @@ returns-then-width-k c =
     record {
       busied =
           record {
-            busied = busy_narrow_no p.1 p.2 c.mark_excess.ensures p.0 (omega (arith, c.width.ensures.0, c.if-width-k.true));
+            busied = busied_narrow p.1 p.2 c.mark_excess.ensures p.0 (omega (arith, c.width.ensures.0, c.if-width-k.true));
             highs = refl;
           };
       marks_long = λ e. c.mark_excess.ensures.long;
