@@ -14,7 +14,7 @@ use Rattle.practice.specs.Practice.{faulty_seed, seed_in, practice_sheet, practi
 use Rattle.practice.proofs.PracticeLaws.{practice_room, practice_longest}
 use Rattle.plan_lines.specs.Text.{refusal_text}
 use Rattle.listing.specs.Opening.{Written, length_refusal_text}
-use Rattle.program.specs.declared.MadeSheet.{MadeSheet}
+use Rattle.program.specs.declared.Output.{Output}
 use Rattle.program.specs.Program.{seed_output, made_sheet_of}
 use Rattle.program.specs.OutputLaws.{over_zeros}
 
@@ -64,8 +64,8 @@ length_made b = go (faulty_seed b)
     go false = omega (arith, length_write_sheet (practice_sheet (seed_in b)), practice_longest (seed_in b))
 
 -- what `make_sheet` gives is no longer than its bytes
-pub made_within : (b : List ℕ) (r : MadeSheet) → r ≡ made_sheet_of b → r.length ≤ length r.bytes
+pub made_within : (b : List ℕ) (r : Output practice_bytes) → r ≡ made_sheet_of b → r.length ≤ length r.bytes
 unfolding made_sheet_of
 made_within b r e =
     let h = length_made b in
-    omega (arith, ap (λ (x : MadeSheet). x.length) e, ap (λ (x : MadeSheet). length x.bytes) e, length_padded practice_bytes (seed_output b) h)
+    omega (arith, ap (λ (x : Output practice_bytes). x.length) e, ap (λ (x : Output practice_bytes). length x.bytes) e, length_padded practice_bytes (seed_output b) h)

@@ -1,11 +1,12 @@
 -- How the program's output follows from a planning call's answer, and that it fits the plan buffer. Assumes nothing.
-use Rattle.std.specs.Prelude.{◌≡◌, refl, Bool, cond, List, [], ◌++◌, ℕ, zero, suc, ◌≤◌, length, replicate}
-use Rattle.std.proofs.Common.{sym, ◌∙◌, true≢false, arith}
+use Rattle.std.specs.Prelude.{◌≡◌, ◌⊎◌, refl, Bool, cond, List, [], ◌++◌, ℕ, zero, suc, ◌≤◌, length, replicate}
+use Rattle.std.proofs.Common.{sym, ◌∙◌, inl, inr, true≢false, arith}
 use Rattle.std.proofs.Math.Path.{ap}
 use Rattle.std.proofs.Math.Bool.{true, false}
 use Rattle.std.proofs.lemmas.List.{length-replicate}
 use Rattle.common.specs.ListLaws.{drop_replicate}
 use Rattle.checks.specs.declared.Refusal.{Refusal}
+use Rattle.checks.specs.Refusals.{no_placing}
 use Rattle.checks.specs.Sheet.{sheet_of}
 use Rattle.checks.specs.Checks.{faults}
 use Rattle.sheet.specs.Calls.{reading_of}
@@ -21,10 +22,16 @@ use Rattle.planning.specs.declared.Planned.{Planned}
 use Rattle.planning.specs.Problem.{alone, listing_of}
 use Rattle.planning.specs.Planning.{held_faults, plan_refusal, short_plan, writes, listed_answer, listing_after}
 use Rattle.planning.proofs.CallAnswers.{room_plan, writes_nothing}
+use Rattle.planning.proofs.WrittenLaws.{writes_planned, writes_held}
 use Rattle.planning.proofs.ProblemLaws.{length_listing}
 use Rattle.planning.proofs.AloneLaws.{alone_in_range}
 use Rattle.program.specs.declared.Output.{Output}
 use Rattle.program.specs.Program.{output, output_of}
+
+-- number 0 and number 12 write a listing
+pub writes_either : (n : ℕ) → (n ≡ 0) ⊎ ((n ≡ 0 → ⊥) × (n ≡ no_placing)) → writes n ≡ true
+writes_either n (inl e) = writes_planned n e
+writes_either n (inr e) = writes_held n e.1
 
 -- the buffer before planning
 abbrev pub zeros : List ℕ
@@ -115,8 +122,8 @@ length_output b = go (writes (plan_refusal b false).number) refl
     go false e = omega (arith, length_refusal_text r.number r.line)
 
 -- what `answer` gives is no longer than its bytes
-pub output_within : (b : List ℕ) (r : Output) → r ≡ output_of b → r.length ≤ length r.bytes
+pub output_within : (b : List ℕ) (r : Output plan_bytes) → r ≡ output_of b → r.length ≤ length r.bytes
 unfolding output_of
 output_within b r e =
     let h = length_output b in
-    omega (arith, ap (λ (x : Output). x.length) e, ap (λ (x : Output). length x.bytes) e, length_padded plan_bytes (output b) h)
+    omega (arith, ap (λ (x : Output plan_bytes). x.length) e, ap (λ (x : Output plan_bytes). length x.bytes) e, length_padded plan_bytes (output b) h)

@@ -14,7 +14,6 @@ use Rattle.causes.specs.CauseCalls.{endings_of}
 use Rattle.program.specs.declared.Output.{Output}
 use Rattle.practice.specs.Practice.{faulty_seed, seed_in, practice_sheet, practice_bytes}
 use Rattle.program.specs.declared.Explanation.{Explanation}
-use Rattle.program.specs.declared.MadeSheet.{MadeSheet}
 
 -- The planner ----------------------------------------------------------------
 
@@ -26,7 +25,7 @@ output b =
     cond (writes r.number) (listing_of (alone (sheet_of b))) (refusal_text r.number r.line)
 
 -- the output and its length; the bytes past it are 0
-unfoldable pub output_of : List ℕ → Output
+unfoldable pub output_of : List ℕ → Output plan_bytes
 output_of b = record { bytes = padded plan_bytes (output b); length = length (output b) }
 
 -- Why ------------------------------------------------------------------------
@@ -48,5 +47,5 @@ explanation_of b = record { bytes = padded causes_bytes (explanation b); length 
 unfoldable pub seed_output : List ℕ → List ℕ
 seed_output b = cond (faulty_seed b) (refusal_text bad_form 1) (write_sheet (practice_sheet (seed_in b)))
 
-unfoldable pub made_sheet_of : List ℕ → MadeSheet
+unfoldable pub made_sheet_of : List ℕ → Output practice_bytes
 made_sheet_of b = record { bytes = padded practice_bytes (seed_output b); length = length (seed_output b) }

@@ -17,26 +17,22 @@ const NO_PLACING: u32 = Fault::Placing as u32;
 
 const BAD_FORM: u32 = Fault::Form as u32;
 
-// The planner's whole output for an input, in the first `length` bytes; the others are 0.
+// What a program writes for an input, in the first `length` bytes; the others are 0. The bytes are an array, as memory
+// is fixed here: N is the most that the program writes.
 #[derive(Drop)]
-pub struct Output {
-    pub bytes: [u8; PLAN_BYTES],
+pub struct Output<const N: usize> {
+    pub bytes: [u8; N],
     pub length: usize,
 }
 
-// The listing of the input's plan, or of the sheet that is held for want of blowers, or the text of any other refusal.
-pub fn answer(b: &[u8]) -> Output
+// The planner's whole output for an input: the listing of its plan, or of the sheet that is held for want of blowers,
+// or the text of any other refusal.
+pub fn answer(b: &[u8]) -> Output<PLAN_BYTES>
     ensures { result ≡ output_of b.now }
 {
     let mut bytes = [0u8; PLAN_BYTES];
     let planned = planning::plan(b, &mut bytes);
-    if planned.number == 0 {
-        return Output {
-            bytes,
-            length: planned.length,
-        };
-    }
-    if planned.number == NO_PLACING {
+    if planned.number == 0 || planned.number == NO_PLACING {
         return Output {
             bytes,
             length: planned.length,
@@ -47,7 +43,7 @@ pub fn answer(b: &[u8]) -> Output
 }
 
 // The whole output of `why` for an input, in the first `length` bytes; the others are 0. `cut` says that the causes'
-// listing was cut.
+// listing was cut. An `Output` within it would be no plainer: each program that reads it would name it twice.
 #[derive(Drop)]
 pub struct Explanation {
     pub bytes: [u8; CAUSES_BYTES],
@@ -84,24 +80,18 @@ pub fn explain(b: &[u8]) -> Explanation
     }
 }
 
-// The whole output of `practice_sheet` for an input, in the first `length` bytes; the others are 0.
-#[derive(Drop)]
-pub struct MadeSheet {
-    pub bytes: [u8; PRACTICE_BYTES],
-    pub length: usize,
-}
-
-// The practice sheet of the seed that the input has, or the text of refusal 2 for any other input.
-pub fn make_sheet(b: &[u8]) -> MadeSheet
+// The whole output of `practice_sheet`: the practice sheet of the seed that the input has, or the text of refusal 2 for
+// any other input.
+pub fn make_sheet(b: &[u8]) -> Output<PRACTICE_BYTES>
     ensures { result ≡ made_sheet_of b.now }
 {
     let mut bytes = [0u8; PRACTICE_BYTES];
     if practice::seed_faulty(b) {
         let length = opening::put_refusal(&mut bytes, BAD_FORM, 1);
-        return MadeSheet { bytes, length };
+        return Output { bytes, length };
     }
     let written = practice::write_practice(line::field_number(b, 0), &mut bytes);
-    MadeSheet {
+    Output {
         bytes,
         length: written.length,
     }
