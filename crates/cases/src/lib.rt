@@ -6,6 +6,9 @@
 // Operation E ends the stream.
 #![tactic(auto)]
 
+ghost use Rattle.std.specs.Prelude.{◌≡◌};
+ghost use Rattle.cases.specs.Parts.{first_part, second_part};
+
 mod buffers;
 mod input;
 mod payloads;
@@ -24,7 +27,10 @@ pub struct Case<'a> {
 
 impl<'a> Case<'a> {
     // The two parts of the payload, the first as long as the number says; both empty where the payload is shorter.
-    pub fn parts(&self) -> (&'a [u8], &'a [u8]) {
+    pub fn parts(&self) -> (&'a [u8], &'a [u8])
+        ensures first { result.0.now ≡ first_part self.now.number self.now.payload.now }
+        ensures second { result.1.now ≡ second_part self.now.number self.now.payload.now }
+    {
         self.payload
             .split_at_checked(self.number as usize)
             .unwrap_or_default()

@@ -1,13 +1,18 @@
 // The parts and the numbers of a payload.
-ghost use Rattle.std.specs.Prelude.{◌≤◌, length};
+ghost use Rattle.std.specs.Prelude.{◌≡◌, ◌≤◌, length};
+ghost use Rattle.cases.specs.Parts.{first_part, second_part};
 
 // The first bytes, as many as asked for; none where there are fewer.
-pub fn first_part(s: &[u8], length: usize) -> &[u8] {
+pub fn first_part(s: &[u8], length: usize) -> &[u8]
+    ensures { result.now ≡ first_part length s.now }
+{
     s.get(..length).unwrap_or_default()
 }
 
 // The bytes after the first ones; none where there are fewer.
-pub fn second_part(s: &[u8], length: usize) -> &[u8] {
+pub fn second_part(s: &[u8], length: usize) -> &[u8]
+    ensures { result.now ≡ second_part length s.now }
+{
     s.get(length..).unwrap_or_default()
 }
 

@@ -1,0 +1,6 @@
+-- `cases::payloads::second_part` meets its contract. Assumes nothing.
+use Rattle.cases.proofs.PartLaws.{second_lent}
+use Rattle.cases.proofs.payloads.second_part.Goals as goal
+
+pub returns : goal.returns
+returns c = second_lent (λ x. x.now) c.args.s.now c.args.length _ _ c.get.ensures.lookup c.unwrap_or_default.ensures
