@@ -9,7 +9,7 @@ mod rates;
 mod tallies;
 
 pub use rates::amount_of;
-pub use tallies::day_charge;
+pub use tallies::{Tally, day_charge};
 
 // Whole hundreds of cents, and the remaining cents.
 #[derive(Clone, Copy)]

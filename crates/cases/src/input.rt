@@ -1,4 +1,6 @@
 // Cases from standard input.
+ghost use Rattle.std.specs.Prelude.{◌≤◌, IfSome, length};
+
 use crate::{Case, payloads};
 
 // Room for the longest payload: a sheet of the first length beyond that of a sheet, and what stands before it.
@@ -9,7 +11,9 @@ const CASES: u32 = 100000;
 
 // Takes the next case, its payload into the room; nothing at the end of the stream, which is operation E, and also
 // where the stream ends without one or the payload is longer than the room.
-fn next_case(room: &mut [u8]) -> Option<Case<'_>> {
+fn next_case(room: &mut [u8]) -> Option<Case<'_>>
+    ensures { IfSome result (λ case. length case.payload.now ≤ length room.old) }
+{
     let mut header = [0u8; 16];
     let got = io::read_full(0, &mut header);
     if got < header.len() || header[0] == b'E' {
@@ -25,8 +29,9 @@ fn next_case(room: &mut [u8]) -> Option<Case<'_>> {
     })
 }
 
-// Has each case of the stream answered.
-pub fn answer_all<F: Fn(Case<'_>) -> std::io::Result<()>>(answer: F) -> std::io::Result<()>
+// Has each case of the stream answered. A write that fails ends its case and no more: the programs go on with the next
+// one and have no status of their own, as `planner` has none. The gate sees by its comparison what was not written.
+pub fn answer_all<F: Fn(Case<'_>) -> std::io::Result<()>>(answer: F)
     requires { F.IsAlwaysCallable answer }
 {
     let mut room = [0; ROOM];
@@ -34,7 +39,6 @@ pub fn answer_all<F: Fn(Case<'_>) -> std::io::Result<()>>(answer: F) -> std::io:
         let Some(case) = next_case(&mut room) else {
             break;
         };
-        answer(case)?;
+        let _ = answer(case);
     }
-    Ok(())
 }

@@ -11,8 +11,9 @@ use placing::Words;
 // The rations fed in slot t, bit j for ration j.
 fn choose_slot(words: &mut Words, t: usize, rations: usize) -> u64
     requires { CanChooseSlot words.old.fed words.old.rest words.old.high t rations }
-    ensures { ChoseSlot result words.old.fed words.old.rest words.old.high
+    ensures chose { ChoseSlot result words.old.fed words.old.rest words.old.high
         words.new.fed words.new.rest words.new.high t rations }
+    ensures spares { words.new.spare ≡ words.old.spare }
 {
     let mut word = 0;
     let mut may = candidates::fed_somewhere(&words.fed);
@@ -26,7 +27,8 @@ fn choose_slot(words: &mut Words, t: usize, rations: usize) -> u64
 // sound placing whose loads are the counts, and its highs are the counts. At most one search for each slot and ration.
 pub fn choose(words: &mut Words, chosen: &mut [u64; SLOTS], slots: usize, rations: usize)
     requires { CanChoose words.old.fed words.old.rest words.old.high chosen.old slots rations }
-    ensures { Chose words.old.fed words.old.rest words.old.high chosen.new slots rations }
+    ensures chose { Chose words.old.fed words.old.rest words.old.high chosen.new slots rations }
+    ensures spares { words.new.spare ≡ words.old.spare }
 {
     for t in 0..slots {
         chosen[t] = choose_slot(words, t, rations);

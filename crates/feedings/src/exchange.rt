@@ -1,5 +1,5 @@
 // An exchange: a ration that rests in slot t and is fed in a later slot, for a ration of slot t that rests there.
-ghost use Rattle.std.specs.Prelude.{◌<◌, IfSome};
+ghost use Rattle.std.specs.Prelude.{◌≡◌, ◌<◌, IfSome};
 ghost use Rattle.grid.specs.Grid.{slots, Edge};
 ghost use Rattle.feedings.specs.CellChoice.{IsPartner, CanAsk, Partner, CanReplace, Swapped};
 
@@ -31,8 +31,10 @@ pub fn partner(words: &Words, t: usize, j: u32) -> Option<usize>
 // Exchanges ration j, fed in slot z, for a ration of slot t that rests in z.
 pub fn swap(words: &mut Words, t: usize, j: u32, z: usize)
     requires { CanReplace words.old.fed words.old.rest words.old.high t j z × Edge words.old.fed words.old.rest t z }
-    ensures { Swapped words.old.fed words.old.rest words.old.high
+    ensures swapped { Swapped words.old.fed words.old.rest words.old.high
         words.new.fed words.new.rest words.new.high t j }
+    ensures spares { words.new.spare ≡ words.old.spare }
+    ensures marks { words.new.seen ≡ words.old.seen }
 {
     bits::move_bit(&mut words.fed[z], &mut words.rest[z], j);
     search::shift(&mut words.fed, &mut words.rest, t, z);

@@ -26,8 +26,9 @@ fn first_fed(fed: &[u64; SLOTS], j: u32) -> Option<usize>
 // ration fed in it can leave.
 fn feed_instead(words: &mut Words, t: usize, j: u32, z: usize) -> bool
     requires { CanReplace words.old.fed words.old.rest words.old.high t j z }
-    ensures { Replaced result words.old.fed words.old.rest words.old.high
+    ensures replaced { Replaced result words.old.fed words.old.rest words.old.high
         words.new.fed words.new.rest words.new.high words.new.seen t j }
+    ensures spares { words.new.spare ≡ words.old.spare }
 {
     let fed = words.fed[z];
     let rest = words.rest[z];
@@ -53,9 +54,10 @@ fn feed_instead(words: &mut Words, t: usize, j: u32, z: usize) -> bool
 fn feed_along(words: &mut Words, may: &mut u64, t: usize, j: u32) -> bool
     requires { CanAsk words.old.fed words.old.rest words.old.high t j × (0 < at words.old.high t)
         × MayFeed may.old t words.old.fed words.old.rest }
-    ensures { Answered result words.old.fed words.old.rest words.old.high
+    ensures answered { Answered result words.old.fed words.old.rest words.old.high
         words.new.fed words.new.rest words.new.high t j
         × MayFeed may.new t words.new.fed words.new.rest }
+    ensures spares { words.new.spare ≡ words.old.spare }
 {
     let Some(z) = first_fed(&words.fed, j) else {
         return false;
@@ -70,9 +72,10 @@ fn feed_along(words: &mut Words, may: &mut u64, t: usize, j: u32) -> bool
 fn feed_resting(words: &mut Words, may: &mut u64, t: usize, j: u32) -> bool
     requires { CanAsk words.old.fed words.old.rest words.old.high t j
         × MayFeed may.old t words.old.fed words.old.rest }
-    ensures { Answered result words.old.fed words.old.rest words.old.high
+    ensures answered { Answered result words.old.fed words.old.rest words.old.high
         words.new.fed words.new.rest words.new.high t j
         × MayFeed may.new t words.new.fed words.new.rest }
+    ensures spares { words.new.spare ≡ words.old.spare }
 {
     if words.high[t] == 0 || !bits::has_bit(*may, j) {
         return false;
@@ -89,9 +92,10 @@ fn feed_resting(words: &mut Words, may: &mut u64, t: usize, j: u32) -> bool
 pub fn feed(words: &mut Words, may: &mut u64, t: usize, j: u32) -> bool
     requires { CanFeed words.old.fed words.old.rest words.old.high t j
         × MayFeed may.old t words.old.fed words.old.rest }
-    ensures { Decided result words.old.fed words.old.rest words.old.high
+    ensures decided { Decided result words.old.fed words.old.rest words.old.high
         words.new.fed words.new.rest words.new.high t j
         × MayFeed may.new t words.new.fed words.new.rest }
+    ensures spares { words.new.spare ≡ words.old.spare }
 {
     if bits::has_bit(words.fed[t], j) {
         words.fed[t] = bits::drop_bit(words.fed[t], j);
@@ -108,8 +112,9 @@ pub fn feed(words: &mut Words, may: &mut u64, t: usize, j: u32) -> bool
 // Decides the same, and gives the word of the slot's choices with this one as bit j.
 pub fn feed_bit(words: &mut Words, may: &mut u64, t: usize, j: u32, word: u64) -> u64
     requires { CanFeedBit word may.old words.old.fed words.old.rest words.old.high t j }
-    ensures { FedBit word result may.new words.old.fed words.old.rest words.old.high
+    ensures fed_bit { FedBit word result may.new words.old.fed words.old.rest words.old.high
         words.new.fed words.new.rest words.new.high t j }
+    ensures spares { words.new.spare ≡ words.old.spare }
 {
     if feed(words, may, t, j) {
         bits::add_bit(word, j)

@@ -24,6 +24,6 @@ fn answer(rt: &HostRuntime, case: Case<'_>) -> io::Result<()> {
     }
 }
 
-fn main(rt: HostRuntime) -> io::Result<()> {
-    cases::answer_all(|case| answer(&rt, case))
+fn main(rt: HostRuntime) {
+    cases::answer_all(|case| answer(&rt, case));
 }

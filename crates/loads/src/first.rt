@@ -114,7 +114,10 @@ pub fn place_first(
     requires { CanStart windows.now volumes.now high.now }
     ensures { Started windows.now volumes.now fed.new rest.new }
 {
+    // read before anything is written: a copy from one lent array to another may be made by memmove, which an archive
+    // for C would then need from outside
+    let all = *windows;
     *fed = [0; SLOTS];
-    *rest = *windows;
+    *rest = all;
     place_again(fed, rest, high, &[0; RATIONS], volumes);
 }

@@ -13,7 +13,7 @@ mod begin;
 mod causes;
 pub mod feasibility;
 pub mod held;
-mod steps;
+pub mod steps;
 pub mod windows;
 
 // Why no sound placing exists with a bound that was asked for. A set of slots is two words: bit t of the first says

@@ -212,16 +212,14 @@ pub fn plan_under(
     PlannedDay::from(plan_read(sheet, highs, listing, placing))
 }
 
-// Plans what was read under all its blowers in each slot.
-fn plan_alone(
-    sheet: Result<FeedSheet, Refusal>,
-    listing: &mut [u8],
-    placing: &mut [u64],
-) -> Result<PlannedDay, Refusal>
-    ensures { ReadBoth (as_reading sheet) listing.old listing.new placing.old placing.new (as_planned_day result).planned }
+// The highs of what was read, planned alone; a refusal has no slot.
+fn read_highs(sheet: &Result<FeedSheet, Refusal>) -> [u8; 96]
+    ensures { result ≡ padded max_slots (replicate (as_reading sheet.now).slots (as_reading sheet.now).blowers) }
 {
-    let sheet = sheet?;
-    plan_sheet(&sheet, &full_highs(&sheet), listing, placing)
+    match sheet {
+        Ok(sheet) => full_highs(sheet),
+        Err(_) => [0u8; 96],
+    }
 }
 
 // With both buffers lent.
@@ -232,7 +230,8 @@ pub fn plan_both_of(
 ) -> Planned
     ensures { ReadBoth (as_reading sheet) listing.old listing.new placing.old placing.new result }
 {
-    PlannedDay::from(plan_alone(sheet, listing, placing)).planned
+    let highs = read_highs(&sheet);
+    plan_under(sheet, &highs, listing, placing).planned
 }
 
 // Plans what was read, and writes nothing.

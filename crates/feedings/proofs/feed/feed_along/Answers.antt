@@ -5,7 +5,7 @@ use Rattle.feedings.proofs.feed.feed_along.Goals as goal
 
 pub returns-in_default : goal.returns-in_default
 returns-in_default c = let p = c.requires in
-    (answered_nowhere p.0 (first_position _ _ p.0.feed.words.grid.fed None c.in_default.ensures) refl, p.2)
+    record { answered = (answered_nowhere p.0 (first_position _ _ p.0.feed.words.grid.fed None c.in_default.ensures) refl, p.2); spares = refl }
 
 pub feed_instead-can-requires : goal.feed_instead-can-requires
 feed_instead-can-requires c = let p = c.requires in

@@ -7,7 +7,7 @@ pub add_bit-requires : goal.add_bit-requires
 add_bit-requires c = (c.requires.feed.ration, bit_below _ _ c.requires.new)
 
 pub returns-then-feed : goal.returns-then-feed
-returns-then-feed c = fed_bit_yes c.feed.ensures _ c.requires.new c.if-feed.true c.add_bit.ensures
+returns-then-feed c = record { fed_bit = fed_bit_yes c.feed.ensures.decided _ c.requires.new c.if-feed.true c.add_bit.ensures; spares = c.feed.ensures.spares }
 
 pub returns-else-feed : goal.returns-else-feed
-returns-else-feed c = fed_bit_no c.feed.ensures _ c.requires.new c.if-feed.false
+returns-else-feed c = record { fed_bit = fed_bit_no c.feed.ensures.decided _ c.requires.new c.if-feed.false; spares = c.feed.ensures.spares }

@@ -6,4 +6,4 @@ pub choose-requires : goal.choose-requires
 choose-requires c = can_choose c.args.slots c.args.blowers c.settle.ensures c.requires
 
 pub returns : goal.returns
-returns c = day_chosen c.args.slots c.args.blowers c.settle.ensures c.requires c.choose.ensures
+returns c = day_chosen c.args.slots c.args.blowers c.settle.ensures c.requires c.choose.ensures.chose
