@@ -1,4 +1,4 @@
--- The numbers of the refusals, each named once: document 01, "Sheets held", and the requests. src/refusals.rt names the
+-- The numbers of the refusals, each named once: document 01, "Sheets held", and the requests. src/faults.rt names the
 -- same for the code. Number 0 stands for no refusal. Definitions only.
 use Rattle.std.specs.Prelude.{ℕ}
 

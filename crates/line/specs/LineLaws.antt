@@ -48,7 +48,7 @@ closing_write_line a b c d =
     ∙ get_d_append_past width (write_field c) _ width 0 (length_write_field c)
     ∙ get_d_append_past width (write_field d) _ 0 0 (length_write_field d)
 
--- None lines --------------------------------------------------------------------
+-- Faulty lines --------------------------------------------------------------------
 
 -- n fields from f on are in the stated form, and the closing byte is there
 pub record Formed (l : List ℕ) (f n : ℕ) : Type 0 where

@@ -1,6 +1,6 @@
 -- `listing::placing_words::put_words` meets its contract. Assumes nothing.
-use Rattle.std.specs.Prelude.{drop, ◌++◌}
-use Rattle.std.proofs.Common.{sym, ap, ◌∙◌, arith, length-take, length-drop}
+use Rattle.std.specs.Prelude.{take}
+use Rattle.std.proofs.Common.{◌≡◌, arith, take_all, length-take, length-drop}
 use Rattle.std.proofs.lemmas.List.{length-replicate}
 use Rattle.common.specs.Buffers.{over}
 use Rattle.plan_lines.specs.Sizes.{placing_words}
@@ -12,5 +12,5 @@ copy_from_slice-requires c = simp (length-take, length-drop, length-replicate) (
 pub returns : goal.returns
 unfolding over
 returns c =
-    ap (λ ws. ws ++ drop placing_words c.args.out.now) c.copy_from_slice.ensures.after
-    ∙ ap (λ n. c.args.fed.now ++ drop n c.args.out.now) (sym c.requires.1)
+    let all : take placing_words c.args.fed.now ≡ c.args.fed.now = take_all placing_words c.args.fed.now (omega (arith, c.requires))
+    in simp (all, c.copy_from_slice.ensures.after, c.requires.1)
