@@ -1,5 +1,5 @@
 // Cases from standard input.
-ghost use Rattle.std.specs.Prelude.{◌≤◌, IfSome, length};
+ghost use Rattle.std.specs.Prelude.{◌≤◌, IfErr, IfSome, length};
 
 use crate::{Case, payloads};
 
@@ -29,9 +29,26 @@ fn next_case(room: &mut [u8]) -> Option<Case<'_>>
     })
 }
 
-// Has each case of the stream answered. A write that fails ends its case and no more: the programs go on with the next
-// one and have no status of their own, as `planner` has none. The gate sees by its comparison what was not written.
-pub fn answer_all<F: Fn(Case<'_>) -> std::io::Result<()>>(answer: F)
+// Has each case of the stream answered, up to the first whose answer fails: the result is then that error, and the
+// cases after it are still to be read.
+pub fn answer_all<F: Fn(Case<'_>) -> std::io::Result<()>>(answer: F) -> std::io::Result<()>
+    requires { F.IsAlwaysCallable answer }
+    ensures { IfErr result (λ error. (case : Case) × F.post answer case (Err error)) }
+{
+    let mut room = [0; ROOM];
+    for _ in 0..CASES {
+        let Some(case) = next_case(&mut room) else {
+            break;
+        };
+        answer(case)?;
+    }
+    Ok(())
+}
+
+// Has each case of the stream answered. A write that fails ends its case and no more: the programs that answer a second
+// implementation's cases go on with the next one and have no status of their own, as `planner` has none. The gate sees
+// by its comparison what was not written.
+pub fn answer_each<F: Fn(Case<'_>) -> std::io::Result<()>>(answer: F)
     requires { F.IsAlwaysCallable answer }
 {
     let mut room = [0; ROOM];

@@ -14,7 +14,7 @@ mod input;
 mod payloads;
 
 pub use buffers::{Element, digest, digest_after, fill, front};
-pub use input::answer_all;
+pub use input::{answer_all, answer_each};
 pub use payloads::{first_part, numbers, second_part};
 
 // A case: its operation, its number, and its payload.

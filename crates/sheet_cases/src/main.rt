@@ -27,5 +27,5 @@ fn answer(rt: &HostRuntime, case: Case<'_>) -> io::Result<()> {
 }
 
 fn main(rt: HostRuntime) {
-    cases::answer_all(|case| answer(&rt, case));
+    cases::answer_each(|case| answer(&rt, case));
 }
